@@ -1,0 +1,3 @@
+-- Laws that several proofs cite.
+mod Signed
+mod Fits

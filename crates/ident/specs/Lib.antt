@@ -1,0 +1,3 @@
+pub mod Ident
+pub mod Order
+pub mod Parts

@@ -1,0 +1,4 @@
+pub mod Hash
+pub mod Sponge
+pub mod Link
+pub mod Laws

@@ -1,0 +1,12 @@
+pub mod Cases
+pub mod Ascii
+pub mod Numeral
+pub mod Reading
+pub mod Decimal
+pub mod DecimalLaws
+pub mod RoundTrip
+pub mod Pieces
+pub mod PieceLaws
+pub mod LineLaws
+pub mod Put
+pub mod PutLaws
