@@ -2,7 +2,7 @@
 use Prim.Native.Nat.{ℕ, zero, suc, _+_, _*_, _/_, _%_, _^_}
 use mathlib.Core.Bool.{Bool, true, false}
 use mathlib.Core.List.{List, [], _∷_, _++_}
-use lib.ListN.{length, getD, replicate}
+use lib.ListN.{length, replicate}
 use lib.Dec.{eqb, leb, ltb}
 use Rattle.sha3.specs.Hash.{sha3}
 use Rattle.ident.specs.declared.EpochAnswer.{EpochAnswer}
@@ -44,19 +44,10 @@ bigEndian (b ∷ m) = b * 256 ^ length m + bigEndian m
 abbrev pub atMost : List ℕ → List ℕ → Bool
 atMost h g = leb (bigEndian h) (bigEndian g)
 
--- the n bytes of a string from a place on
-unfoldable pub bytesFrom : ℕ → ℕ → List ℕ → List ℕ
-bytesFrom zero i x = []
-bytesFrom (suc n) i x = getD x i 0 ∷ bytesFrom n (suc i) x
-
--- the 32 bytes of an id
-abbrev pub idBytes : List ℕ → List ℕ
-idBytes x = bytesFrom 32 0 x
-
 -- the ids of a list, one after another
 unfoldable pub joined : List (List ℕ) → List ℕ
 joined [] = []
-joined (p ∷ ps) = idBytes p ++ joined ps
+joined (p ∷ ps) = p ++ joined ps
 
 ------ replies
 

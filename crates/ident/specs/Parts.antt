@@ -4,14 +4,13 @@ use mathlib.Core.Path.{_≡_, refl, sym, ap, _∙_}
 use mathlib.Core.Bool.{Bool, true, false}
 use mathlib.Core.List.{List, [], _∷_, _++_, append-assoc, append-nil}
 use native.Mathlib.Omega.{arith}
-use native.Mathlib.Decide.{ℕ-discrete}
 use native.Mathlib.Numerals.{add-one}
-use lib.ListN.{length, take, getD, set, replicate}
-use lib.Seq.{take-suc, take-length, ext-getD, getD-set-same, getD-set-other}
+use lib.ListN.{length, take, getD, replicate}
+use lib.Seq.{take-suc, take-length}
 use lib.Dec.{ltb}
 use borrow.Author.Tests.{lt-ltb, le-ltb}
 use Rattle.sha3.specs.Hash.{sha3}
-use Rattle.ident.specs.Ident.{littleEndian, bytesFrom, idBytes, joined, nullifierTag, idTag, nullifierOf, idOf, computedId, keyLimit, parentLimit, header, workHash, workOf, atMost}
+use Rattle.ident.specs.Ident.{littleEndian, joined, nullifierTag, idTag, nullifierOf, idOf, computedId, keyLimit, parentLimit, header, workHash, workOf, atMost}
 use Rattle.ident.specs.declared.Verdict.the-variants.{Fine, OutOfRange as KeyTooLong}
 use Rattle.ident.specs.declared.WorkAnswer.the-variants.{Passes, Fails, ListTooLong, OutOfRange}
 
@@ -31,50 +30,19 @@ module _ (key nullifier : List ℕ) where
   unfolding computedId idOf
   id-served hash h e = rw (le-ltb keyLimit (length key) h, e, append-assoc idTag key nullifier)
 
------- an id, byte by byte
-
-from-length : (n i : ℕ) (x : List ℕ) → length (bytesFrom n i x) ≡ n
-unfolding bytesFrom
-from-length zero i x = refl
-from-length (suc n) i x = ap suc (from-length n (suc i) x)
-
-from-at : (n i : ℕ) (x : List ℕ) (k : ℕ) → k < n → getD (bytesFrom n i x) k 0 ≡ getD x (i + k) 0
-unfolding bytesFrom
-from-at zero i x k h = omega arith
-from-at (suc n) i x zero h = let e : i ≡ i + 0 = omega arith in ap (λ (j : ℕ). getD x j 0) e
-from-at (suc n) i x (suc k) h =
-    let e : suc i + k ≡ i + suc k = omega arith in
-    from-at n (suc i) x k (omega arith) ∙ ap (λ (j : ℕ). getD x j 0) e
-
--- one byte more
-pub more-copied : (x r : List ℕ) (i : ℕ) → i < length r → ((k : ℕ) → k < i → getD r k 0 ≡ getD x k 0) → (k : ℕ) → k < i + 1 → getD (set r i (getD x i 0)) k 0 ≡ getD x k 0
-more-copied x r i l h k b = elim (ℕ-discrete k i) [
-  | yes e ↦ rw e (getD-set-same r i (getD x i 0) 0 l)
-  | no e ↦ getD-set-other r i k (getD x i 0) 0 e ∙ h k (omega arith)
-]
-
--- 32 bytes, each of them the id's
-pub id-copied : (x r : List ℕ) → length r ≡ 32 → ((k : ℕ) → k < 32 → getD r k 0 ≡ getD x k 0) → r ≡ idBytes x
-id-copied x r l h =
-    ext-getD 0 r (idBytes x) (l ∙ sym (from-length 32 0 x))
-    (λ (k : ℕ) (b : k < length r).
-    let b32 : k < 32 = omega (arith, l) in
-    let e : 0 + k ≡ k = omega arith in
-    h k b32 ∙ sym (from-at 32 0 x k b32 ∙ ap (λ (j : ℕ). getD x j 0) e))
-
 ------ the parents, one after another
 
-joined-snoc : (ps : List (List ℕ)) (p : List ℕ) → joined (ps ++ (p ∷ [])) ≡ joined ps ++ idBytes p
+joined-snoc : (ps : List (List ℕ)) (p : List ℕ) → joined (ps ++ (p ∷ [])) ≡ joined ps ++ p
 unfolding joined
-joined-snoc [] p = append-nil (idBytes p)
-joined-snoc (q ∷ ps) p = ap (λ (m : List ℕ). idBytes q ++ m) (joined-snoc ps p) ∙ sym (append-assoc (idBytes q) (joined ps) (idBytes p))
+joined-snoc [] p = append-nil (p)
+joined-snoc (q ∷ ps) p = ap (λ (m : List ℕ). q ++ m) (joined-snoc ps p) ∙ sym (append-assoc (q) (joined ps) (p))
 
 pub joined-none : (key : List ℕ) → key ≡ key ++ joined []
 unfolding joined
 joined-none key = sym (append-nil key)
 
 -- one parent more
-pub joined-more : (ps : List (List ℕ)) (i : ℕ) → i < length ps → joined (take i ps) ++ idBytes (getD ps i []) ≡ joined (take (i + 1) ps)
+pub joined-more : (ps : List (List ℕ)) (i : ℕ) → i < length ps → joined (take i ps) ++ getD ps i [] ≡ joined (take (i + 1) ps)
 joined-more ps i h = rw (add-one, take-suc ps i []) (sym (joined-snoc (take i ps) (getD ps i [])))
 
 module _ (key nullifier last : List ℕ) (parents : List (List ℕ)) (nonce : ℕ) where

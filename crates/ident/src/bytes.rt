@@ -1,7 +1,7 @@
 // Numbers as bytes, and bytes as numbers.
 ghost use mathlib.Core.Path.{_≡_};
 ghost use lib.ListN.{length};
-ghost use Rattle.ident.specs.Ident.{littleEndian, idBytes, atMost};
+ghost use Rattle.ident.specs.Ident.{littleEndian, atMost};
 
 // Eight bytes, the lowest first.
 pub(crate) fn little_endian(v: u64) -> [u8; 8]
@@ -26,17 +26,12 @@ pub(crate) fn little_endian(v: u64) -> [u8; 8]
     ]
 }
 
-// The 32 bytes of an id.
-pub(crate) fn id_bytes(id: &[u8; 32]) -> [u8; 32]
-    ensures { λ r. ⌜ r ≡ idBytes (now (id .entry)) ⌝ }
+// id again, which the caller then knows to be 32 bytes: the prover knows the length of an array that is taken by value, and
+// of no reference to one.
+pub(crate) fn whole(id: [u8; 32]) -> [u8; 32]
+    ensures { λ r. ⌜ (r ≡ id) × (length r ≡ 32) ⌝ }
 {
-    let mut copy = [0u8; 32];
-    let mut i: usize = 0;
-    while i < 32 {
-        copy[i] = id[i];
-        i += 1;
-    }
-    copy
+    id
 }
 
 // Whether a hash, read from its first byte, is at most the target.

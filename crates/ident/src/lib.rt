@@ -101,7 +101,7 @@ fn work_hash(key: &[u8], parents: &[[u8; 32]], nullifier: Nullifier, nonce: u64)
     let mut hasher = Hasher::new().update(key);
     let mut i: usize = 0;
     while i < parents.len() {
-        let parent = bytes::id_bytes(&parents[i]);
+        let parent = bytes::whole(parents[i]);
         let next = hasher.update(&parent);
         hasher = next;
         i += 1;

@@ -97,8 +97,8 @@ pub same-bits : (k a b : ℕ) → a < 2 ^ k → b < 2 ^ k → ((i : ℕ) → i <
 same-bits zero a b ha hb e = omega arith
 same-bits (suc k) a b ha hb e =
     let high : a / 2 ≡ b / 2 =
-        same-bits k (a / 2) (b / 2) (omega (arith, pow-suc 2 k)) (omega (arith, pow-suc 2 k))
-        (λ i h. sym (half-bit a i) ∙ e (suc i) (omega arith) ∙ half-bit b i)
+    same-bits k (a / 2) (b / 2) (omega (arith, pow-suc 2 k)) (omega (arith, pow-suc 2 k))
+    (λ i h. sym (half-bit a i) ∙ e (suc i) (omega arith) ∙ half-bit b i)
     in
     let low : bit a 0 ≡ bit b 0 = e 0 (omega arith) in
     omega arith
@@ -176,12 +176,12 @@ turned-bit v (suc k) z hv hn hz =
     ∙ ap (λ (k : ℕ). bit (bitOr (v * 2 ^ n % 2 ^ k) (v / 2 ^ m)) z) e
     ∙ ap (λ (u : ℕ). bit u z) (turned-sum v n m h)
     ∙ ⊎-elim
-        (λ (l : z < n). let a : z + m ≡ (z + m) % 64 = omega arith in turned-low v n m h z l ∙ ap (bit v) a)
-        (λ (l : n ≤ z).
-            let a : z ≡ n + (z - n) = omega arith in
-            let b : z - n ≡ (z + m) % 64 = omega arith in
-            ap (bit ((v % 2 ^ m) * 2 ^ n + v / 2 ^ m)) a ∙ turned-high v n m h (z - n) (omega arith) ∙ ap (bit v) b)
-        (below-or-not z n)
+    (λ (l : z < n). let a : z + m ≡ (z + m) % 64 = omega arith in turned-low v n m h z l ∙ ap (bit v) a)
+    (λ (l : n ≤ z).
+    let a : z ≡ n + (z - n) = omega arith in
+    let b : z - n ≡ (z + m) % 64 = omega arith in
+    ap (bit ((v % 2 ^ m) * 2 ^ n + v / 2 ^ m)) a ∙ turned-high v n m h (z - n) (omega arith) ∙ ap (bit v) b)
+    (below-or-not z n)
 
 pub turned-lt : (v n : ℕ) → v < 2 ^ 64 → turned v n < 2 ^ 64
 unfolding turned

@@ -94,7 +94,7 @@ module _ (a : Lanes) (A : State) (is : Is a A) where
   theta-is =
       record {
         small = λ i hi. xor-lt 64 (a i) (effect a (i % 5)) (is .small i hi) (effect-lt (i % 5));
-        same = λ i z hi hz. xor-bit (a i) (effect a (i % 5)) z ∙ ap₂ _⊕_ (is .same i z hi hz) (effect-bit (i % 5) z hz)
+        same = λ i z hi hz. xor-bit (a i) (effect a (i % 5)) z ∙ ap₂ _⊕_ (is .same i z hi hz) (effect-bit (i % 5) z hz);
       }
 
   rotation-lt : (i : ℕ) → rotation i < 64
@@ -108,7 +108,7 @@ module _ (a : Lanes) (A : State) (is : Is a A) where
         small = λ i hi. turned-lt (a i) (rotation i) (is .small i hi);
         same = λ i z hi hz.
             turned-bit (a i) (rotation i) z (is .small i hi) (rotation-lt i) hz
-            ∙ is .same i ((z + (64 - rotation i)) % 64) hi (m64 (z + (64 - rotation i)))
+            ∙ is .same i ((z + (64 - rotation i)) % 64) hi (m64 (z + (64 - rotation i)));
       }
 
   pi-is : Is (pi a) (π A)
@@ -116,7 +116,7 @@ module _ (a : Lanes) (A : State) (is : Is a A) where
   pi-is =
       record {
         small = λ i hi. is .small (origin i) (omega arith);
-        same = λ i z hi hz. at (origin i) ((i % 5 + 3 * (i / 5)) % 5) (i % 5) z (m5 (i % 5 + 3 * (i / 5))) (m5 i) hz (omega arith)
+        same = λ i z hi hz. at (origin i) ((i % 5 + 3 * (i / 5)) % 5) (i % 5) z (m5 (i % 5 + 3 * (i / 5))) (m5 i) hz (omega arith);
       }
 
   chi-is : Is (chi a) (χ A)
@@ -133,7 +133,7 @@ module _ (a : Lanes) (A : State) (is : Is a A) where
             ∙ ap₂ _*_
             (not-bit z 64 (a (along i 1)) hz (is .small (along i 1) (omega arith))
             ∙ ap (λ (p : ℕ). p ⊕ 1) (at (along i 1) ((i % 5 + 1) % 5) (i / 5) z (m5 (i % 5 + 1)) (omega arith) hz (omega arith)))
-            (at (along i 2) ((i % 5 + 2) % 5) (i / 5) z (m5 (i % 5 + 2)) (omega arith) hz (omega arith)))
+            (at (along i 2) ((i % 5 + 2) % 5) (i / 5) z (m5 (i % 5 + 2)) (omega arith) hz (omega arith)));
       }
 
   iota-is : (r : ℕ) → r < 24 → Is (iota (constantOf r) a) (ι A r)
@@ -144,6 +144,7 @@ module _ (a : Lanes) (A : State) (is : Is a A) where
       sm : (i : ℕ) → i < 25 → iota (constantOf r) a i < 2 ^ 64
       sm zero h = xor-lt 64 (a 0) (constantOf r) (is .small 0 h) (constant-lt r hr)
       sm (suc i) h = is .small (suc i) h
+
       sa : (i z : ℕ) → i < 25 → z < 64 → bit (iota (constantOf r) a i) z ≡ ι A r (i % 5) (i / 5) z
       sa zero z h hz = xor-bit (a 0) (constantOf r) z ∙ ap₂ _⊕_ (is .same 0 z h hz) (constant-bit r z hr hz)
       sa (suc i) z h hz = is .same (suc i) z h hz ∙ sym (others A r (suc i % 5) (suc i / 5) z (omega arith))
@@ -153,7 +154,7 @@ module _ (a : Lanes) (A : State) (is : Is a A) where
   listed-is =
       record {
         small = λ i hi. subst (λ (v : ℕ). v < 2 ^ 64) (sym (listed-at 25 i a hi)) (is .small i hi);
-        same = λ i z hi hz. ap (λ (v : ℕ). bit v z) (listed-at 25 i a hi) ∙ is .same i z hi hz
+        same = λ i z hi hz. ap (λ (v : ℕ). bit v z) (listed-at 25 i a hi) ∙ is .same i z hi hz;
       }
 
 -- a round, and n of them
@@ -189,7 +190,7 @@ lanes-are s small =
       small = small;
       same = λ i z hi hz.
           let e : 64 * (5 * (i / 5) + i % 5) + z ≡ 64 * i + z = omega arith in
-          sym (ap (λ (j : ℕ). getD (bitsBy 64 s) j 0) e ∙ bitsBy-at 64 s i z hz)
+          sym (ap (λ (j : ℕ). getD (bitsBy 64 s) j 0) e ∙ bitsBy-at 64 s i z hz);
     }
 
 permuted-is : (s : List ℕ) → ((i : ℕ) → i < 25 → lane s i < 2 ^ 64) → Is (lane (permuted s)) (rounds 24 (array (bitsBy 64 s)))

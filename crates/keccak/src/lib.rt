@@ -5,7 +5,31 @@ ghost use Rattle.keccak.specs.Fips202.{listed};
 ghost use Rattle.keccak.specs.Lanes.{lane, turned, rotation, constantOf, parity, effect, effects, theta, rho, chi, origin, spread, mixed, permuted};
 
 const ROTATIONS: [u64; 25] = [
-    0, 1, 62, 28, 27, 36, 44, 6, 55, 20, 3, 10, 43, 25, 39, 41, 45, 15, 21, 8, 18, 2, 61, 56, 14,
+    0,
+    1,
+    62,
+    28,
+    27,
+    36,
+    44,
+    6,
+    55,
+    20,
+    3,
+    10,
+    43,
+    25,
+    39,
+    41,
+    45,
+    15,
+    21,
+    8,
+    18,
+    2,
+    61,
+    56,
+    14,
 ];
 
 const ROUND_CONSTANTS: [u64; 24] = [
@@ -85,7 +109,6 @@ fn moved(a: [u64; 25], d: [u64; 5], i: usize) -> u64
     let n = rotations();
     rotate(a[i] ^ d[i % 5], n[i])
 }
-
 
 fn theta_rho_pi(a: [u64; 25]) -> [u64; 25]
     ensures { λ r. ⌜ r ≡ spread a ⌝ }

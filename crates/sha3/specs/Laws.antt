@@ -51,5 +51,5 @@ pub bits-equal : (a b : List ℕ) → Bytes a → Bytes b → bitsOf a ≡ bitsO
 bits-equal a b ha hb e =
     ext-getD 0 a b (omega (arith, bitsBy-length 8 a, bitsBy-length 8 b, ap length e))
     (λ k h.
-        same-bits 8 (getD a k 0) (getD b k 0) (ha k) (hb k)
-        (λ i l. sym (bitsBy-at 8 a k i l) ∙ ap (λ (x : Bits). getD x (8 * k + i) 0) e ∙ bitsBy-at 8 b k i l))
+    same-bits 8 (getD a k 0) (getD b k 0) (ha k) (hb k)
+    (λ i l. sym (bitsBy-at 8 a k i l) ∙ ap (λ (x : Bits). getD x (8 * k + i) 0) e ∙ bitsBy-at 8 b k i l))

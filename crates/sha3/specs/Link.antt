@@ -46,21 +46,21 @@ shifted-bit : (v r z : ℕ) → bit (v % 2 ^ 8 * 2 ^ (8 * r)) z ≡ bit (cond (e
 shifted-bit v r z =
     ⊎-elim
     (λ (low : z < 8 * r).
-        ap (λ (x : ℕ). bit x z) (sym (add-zero (v % 2 ^ 8 * 2 ^ (8 * r)))) ∙ under-bit (v % 2 ^ 8) 0 (8 * r) (pow-pos (8 * r)) z low ∙ zero-bit z
-        ∙ sym (ap (λ (t : Bool). bit (cond t v 0) (z % 8)) (ne-eqb (z / 8) r (λ (e : z / 8 ≡ r). omega arith)) ∙ zero-bit (z % 8)))
+    ap (λ (x : ℕ). bit x z) (sym (add-zero (v % 2 ^ 8 * 2 ^ (8 * r)))) ∙ under-bit (v % 2 ^ 8) 0 (8 * r) (pow-pos (8 * r)) z low ∙ zero-bit z
+    ∙ sym (ap (λ (t : Bool). bit (cond t v 0) (z % 8)) (ne-eqb (z / 8) r (λ (e : z / 8 ≡ r). omega arith)) ∙ zero-bit (z % 8)))
     (λ (up : 8 * r ≤ z).
-        let e : z ≡ 8 * r + (z - 8 * r) = omega arith in
-        ap (λ (x : ℕ). bit x z) (sym (add-zero (v % 2 ^ 8 * 2 ^ (8 * r)))) ∙ ap (bit (v % 2 ^ 8 * 2 ^ (8 * r) + 0)) e
-        ∙ over-bit (v % 2 ^ 8) 0 (8 * r) (pow-pos (8 * r)) (z - 8 * r)
-        ∙ ⊎-elim
-            (λ (at : z - 8 * r < 8).
-                let f : z - 8 * r ≡ z % 8 = omega arith in
-                low-bit v (z - 8 * r) 8 at ∙ ap (bit v) f
-                ∙ sym (ap (λ (t : Bool). bit (cond t v 0) (z % 8)) (eq-eqb (z / 8) r (omega arith))))
-            (λ (over : 8 ≤ z - 8 * r).
-                high-bit (v % 2 ^ 8) (z - 8 * r) (mod-lt v (pow-pos 8)) over
-                ∙ sym (ap (λ (t : Bool). bit (cond t v 0) (z % 8)) (ne-eqb (z / 8) r (λ (e : z / 8 ≡ r). omega arith)) ∙ zero-bit (z % 8)))
-            (below-or-not (z - 8 * r) 8))
+    let e : z ≡ 8 * r + (z - 8 * r) = omega arith in
+    ap (λ (x : ℕ). bit x z) (sym (add-zero (v % 2 ^ 8 * 2 ^ (8 * r)))) ∙ ap (bit (v % 2 ^ 8 * 2 ^ (8 * r) + 0)) e
+    ∙ over-bit (v % 2 ^ 8) 0 (8 * r) (pow-pos (8 * r)) (z - 8 * r)
+    ∙ ⊎-elim
+    (λ (at : z - 8 * r < 8).
+    let f : z - 8 * r ≡ z % 8 = omega arith in
+    low-bit v (z - 8 * r) 8 at ∙ ap (bit v) f
+    ∙ sym (ap (λ (t : Bool). bit (cond t v 0) (z % 8)) (eq-eqb (z / 8) r (omega arith))))
+    (λ (over : 8 ≤ z - 8 * r).
+    high-bit (v % 2 ^ 8) (z - 8 * r) (mod-lt v (pow-pos 8)) over
+    ∙ sym (ap (λ (t : Bool). bit (cond t v 0) (z % 8)) (ne-eqb (z / 8) r (λ (e : z / 8 ≡ r). omega arith)) ∙ zero-bit (z % 8)))
+    (below-or-not (z - 8 * r) 8))
     (below-or-not z (8 * r))
 
 module _ (s : List ℕ) (p b k z : ℕ) (hp : p / 8 < length s) (hz : z < 64) where
@@ -71,11 +71,11 @@ module _ (s : List ℕ) (p b k z : ℕ) (hp : p / 8 < length s) (hz : z < 64) wh
       let w : ℕ = bitXor (lane s (p / 8)) v in
       ⊎-elim
       (λ (e : k ≡ p / 8).
-          ap (λ (j : ℕ). bit (lane (set s (p / 8) w) j) z) e
-          ∙ ap (λ (x : ℕ). bit x z) (getD-set-same s (p / 8) w 0 hp)
-          ∙ xor-bit (lane s (p / 8)) v z
-          ∙ ap (λ (j : ℕ). bit (lane s j) z ⊕ bit v z) (sym e)
-          ∙ ap (λ (x : ℕ). bit (lane s k) z ⊕ x) (shifted-bit b (p % 8) z ∙ ap (λ (t : Bool). bit (cond t b 0) (z % 8)) (same e)))
+      ap (λ (j : ℕ). bit (lane (set s (p / 8) w) j) z) e
+      ∙ ap (λ (x : ℕ). bit x z) (getD-set-same s (p / 8) w 0 hp)
+      ∙ xor-bit (lane s (p / 8)) v z
+      ∙ ap (λ (j : ℕ). bit (lane s j) z ⊕ bit v z) (sym e)
+      ∙ ap (λ (x : ℕ). bit (lane s k) z ⊕ x) (shifted-bit b (p % 8) z ∙ ap (λ (t : Bool). bit (cond t b 0) (z % 8)) (same e)))
       (λ (d : k ≡ p / 8 → ⊥). ap (λ (x : ℕ). bit x z) (getD-set-other s (p / 8) k w 0 d) ∙ plus-zero (lane s k / 2 ^ z) ∙ ap (λ (x : ℕ). bit (lane s k) z ⊕ x) (sym (none d)))
       (equal-or-not k (p / 8))
     where
@@ -85,6 +85,7 @@ module _ (s : List ℕ) (p b k z : ℕ) (hp : p / 8 < length s) (hz : z < 64) wh
           (λ (yes : z / 8 ≡ p % 8). eq-eqb (z / 8) (p % 8) yes ∙ sym (eq-eqb (8 * k + z / 8) p (omega arith)))
           (λ (no : z / 8 ≡ p % 8 → ⊥). ne-eqb (z / 8) (p % 8) no ∙ sym (ne-eqb (8 * k + z / 8) p (λ (q : 8 * k + z / 8 ≡ p). no (omega arith))))
           (equal-or-not (z / 8) (p % 8))
+
       none : (k ≡ p / 8 → ⊥) → bit (cond (eqb (8 * k + z / 8) p) b 0) (z % 8) ≡ 0
       none d = ap (λ (t : Bool). bit (cond t b 0) (z % 8)) (ne-eqb (8 * k + z / 8) p (λ (q : 8 * k + z / 8 ≡ p). d (omega arith))) ∙ zero-bit (z % 8)
 
@@ -130,12 +131,12 @@ unfolding plusByte plusLane
 plusByte-lt s p b k h =
     ⊎-elim
     (λ (e : k ≡ p / 8).
-        ⊎-elim
-        (λ (l : p / 8 < length s).
-            subst (λ (x : ℕ). x < 2 ^ 64) (sym (ap (lane (set s (p / 8) _)) e ∙ getD-set-same s (p / 8) _ 0 l))
-            (xor-lt 64 (lane s (p / 8)) _ (subst (λ (j : ℕ). lane s j < 2 ^ 64) e h) byte-lt))
-        (λ (o : length s ≤ p / 8). subst (λ (x : List ℕ). lane x k < 2 ^ 64) (sym (set-out s (p / 8) _ o)) h)
-        (below-or-not (p / 8) (length s)))
+    ⊎-elim
+    (λ (l : p / 8 < length s).
+    subst (λ (x : ℕ). x < 2 ^ 64) (sym (ap (lane (set s (p / 8) _)) e ∙ getD-set-same s (p / 8) _ 0 l))
+    (xor-lt 64 (lane s (p / 8)) _ (subst (λ (j : ℕ). lane s j < 2 ^ 64) e h) byte-lt))
+    (λ (o : length s ≤ p / 8). subst (λ (x : List ℕ). lane x k < 2 ^ 64) (sym (set-out s (p / 8) _ o)) h)
+    (below-or-not (p / 8) (length s)))
     (λ (d : k ≡ p / 8 → ⊥). subst (λ (x : ℕ). x < 2 ^ 64) (sym (getD-set-other s (p / 8) k _ 0 d)) h)
     (equal-or-not k (p / 8))
   where
@@ -157,13 +158,13 @@ block-bits s m ls lm =
     let l : length (bitsBy 64 (plusBytes s 0 m)) ≡ 1600 = bitsBy-length 64 (plusBytes s 0 m) ∙ ap (λ (n : ℕ). 64 * n) (plusBytes-length m s 0 ∙ ls) in
     ext-getD 0 (bitsBy 64 (plusBytes s 0 m)) (xor X Y) (l ∙ sym (xor-length X Y (x ∙ sym y) ∙ x))
     (λ i h.
-        let q : 8 * (i / 64) + i % 64 / 8 ≡ 0 + i / 8 = omega arith in
-        let r : i % 64 % 8 ≡ i % 8 = omega arith in
-        lane-bit (plusBytes s 0 m) i
-        ∙ plusBytes-bit m s 0 (i / 64) (i % 64) (omega arith) (mod-lt i (lit< tt))
-        ∙ ap₂ _⊕_ (sym (lane-bit s i))
-        ((λ j. bit (standing 0 m (q j)) (r j)) ∙ ap (λ (v : ℕ). bit v (i % 8)) (from-start m 0 (i / 8)) ∙ sym (padded-at (bitsOf m) 512 i ∙ byte-bit m i))
-        ∙ sym (xor-at X Y i (omega (arith, l, x)) (omega (arith, l, y))))
+    let q : 8 * (i / 64) + i % 64 / 8 ≡ 0 + i / 8 = omega arith in
+    let r : i % 64 % 8 ≡ i % 8 = omega arith in
+    lane-bit (plusBytes s 0 m) i
+    ∙ plusBytes-bit m s 0 (i / 64) (i % 64) (omega arith) (mod-lt i (lit< tt))
+    ∙ ap₂ _⊕_ (sym (lane-bit s i))
+    ((λ j. bit (standing 0 m (q j)) (r j)) ∙ ap (λ (v : ℕ). bit v (i % 8)) (from-start m 0 (i / 8)) ∙ sym (padded-at (bitsOf m) 512 i ∙ byte-bit m i))
+    ∙ sym (xor-at X Y i (omega (arith, l, x)) (omega (arith, l, y))))
 
 -- 3. The hasher after n whole blocks has FIPS 202's state.
 abbrev pub new : Hasher
@@ -196,7 +197,7 @@ blocks l zero h =
       place = refl;
       long = refl;
       small = λ k hk. subst (λ (x : ℕ). x < 2 ^ 64) (sym (zeros-at 25 k)) (pow-pos 64);
-      bits = zero-lanes 25 64
+      bits = zero-lanes 25 64;
     }
 blocks l (suc n) h =
     let before : Blocks l n = blocks l n (omega arith) in
@@ -205,12 +206,12 @@ blocks l (suc n) h =
     let lm : length m ≡ 136 = length-take-le 136 (drop (136 * n) l) (omega (arith, length-drop (136 * n) l)) in
     let e : 136 * suc n ≡ 136 * n + 136 = omega arith in
     let whole : takeBytes new (take (136 * suc n) l) ≡ of (permuted (plusBytes s 0 m)) 0 =
-        ap (λ (j : ℕ). takeBytes new (take j l)) e
-        ∙ ap (takeBytes new) (take-add (136 * n) 136 l)
-        ∙ takeBytes-append new (take (136 * n) l) m
-        ∙ ap (λ (x : Hasher). takeBytes x m) (before .place)
-        ∙ takeBytes-block m s 0 (lit< tt) (omega arith)
-        ∙ holding-full (plusBytes s 0 m) (0 + length m) (omega arith)
+    ap (λ (j : ℕ). takeBytes new (take j l)) e
+    ∙ ap (takeBytes new) (take-add (136 * n) 136 l)
+    ∙ takeBytes-append new (take (136 * n) l) m
+    ∙ ap (λ (x : Hasher). takeBytes x m) (before .place)
+    ∙ takeBytes-block m s 0 (lit< tt) (omega arith)
+    ∙ holding-full (plusBytes s 0 m) (0 + length m) (omega arith)
     in
     let small : Small (plusBytes s 0 m) = λ k hk. plusBytes-lt m s 0 k (before .small k hk) in
     let lanes : stateOf l (suc n) ≡ permuted (plusBytes s 0 m) = ap (λ (x : Hasher). x .lanes) whole in
@@ -223,7 +224,7 @@ blocks l (suc n) h =
           ∙ permuted-bits (plusBytes s 0 m) small
           ∙ ap KECCAK-p
           (block-bits s m (before .long) lm
-          ∙ ap₂ (λ (x y : Bits). xor x (y ++ replicate 512 0)) (before .bits) (block l n))
+          ∙ ap₂ (λ (x y : Bits). xor x (y ++ replicate 512 0)) (before .bits) (block l n));
     }
   where
     block : (l : List ℕ) (n : ℕ) → bitsOf (take 136 (drop (136 * n) l)) ≡ take 1088 (drop (1088 * n) (bitsOf l))
@@ -243,16 +244,16 @@ output-bits s ls =
     let b : length (take 256 (bitsBy 64 s)) ≡ 256 = length-take-le 256 (bitsBy 64 s) (omega (arith, bitsBy-length 64 s, ls)) in
     ext-getD 0 (bitsOf (output s)) (take 256 (bitsBy 64 s)) (a ∙ sym b)
     (λ i h.
-        let lt : i < 256 = omega (arith, a) in
-        let x : ℕ = lane s (i / 8 / 8) in
-        let k : i / 8 / 8 ≡ i / 64 = omega arith in
-        let z : 8 * (i / 8 % 8) + i % 8 ≡ i % 64 = omega arith in
-        byte-bit (output s) i
-        ∙ ap (λ (v : ℕ). bit v (i % 8)) (listed-at 32 (i / 8) (byteOf s) (omega arith))
-        ∙ low-bit (x / 2 ^ (8 * (i / 8 % 8))) (i % 8) 8 (mod-lt i (lit< tt))
-        ∙ ap (λ (v : ℕ). v % 2) (shr-shr x (8 * (i / 8 % 8)) (i % 8))
-        ∙ (λ j. bit (lane s (k j)) (z j))
-        ∙ sym (getD-take 256 (bitsBy 64 s) i 0 lt ∙ lane-bit s i))
+    let lt : i < 256 = omega (arith, a) in
+    let x : ℕ = lane s (i / 8 / 8) in
+    let k : i / 8 / 8 ≡ i / 64 = omega arith in
+    let z : 8 * (i / 8 % 8) + i % 8 ≡ i % 64 = omega arith in
+    byte-bit (output s) i
+    ∙ ap (λ (v : ℕ). bit v (i % 8)) (listed-at 32 (i / 8) (byteOf s) (omega arith))
+    ∙ low-bit (x / 2 ^ (8 * (i / 8 % 8))) (i % 8) 8 (mod-lt i (lit< tt))
+    ∙ ap (λ (v : ℕ). v % 2) (shr-shr x (8 * (i / 8 % 8)) (i % 8))
+    ∙ (λ j. bit (lane s (k j)) (z j))
+    ∙ sym (getD-take 256 (bitsBy 64 s) i 0 lt ∙ lane-bit s i))
 
 -- 5. The padding as bits: 01, and pad10*1
 zeros-bits : (j : ℕ) → bitsOf (replicate j 0 ++ 0x80 ∷ []) ≡ replicate (8 * j + 7) 0 ++ 1 ∷ []
@@ -301,11 +302,11 @@ place [] s p h = omega arith
 place (b ∷ m) s p h =
     ⊎-elim
     (λ (e : suc p ≡ 136).
-        let f : (0 + length m) % 136 ≡ (p + suc (length m)) % 136 = omega arith in
-        ap (λ (x : Hasher). takeBytes x m .at) (holding-full (plusByte s p b) (suc p) e) ∙ place m (permuted (plusByte s p b)) 0 (lit< tt) ∙ f)
+    let f : (0 + length m) % 136 ≡ (p + suc (length m)) % 136 = omega arith in
+    ap (λ (x : Hasher). takeBytes x m .at) (holding-full (plusByte s p b) (suc p) e) ∙ place m (permuted (plusByte s p b)) 0 (lit< tt) ∙ f)
     (λ (l : suc p < 136).
-        let f : (suc p + length m) % 136 ≡ (p + suc (length m)) % 136 = omega arith in
-        ap (λ (x : Hasher). takeBytes x m .at) (holding-part (plusByte s p b) (suc p) l) ∙ place m (plusByte s p b) (suc p) l ∙ f)
+    let f : (suc p + length m) % 136 ≡ (p + suc (length m)) % 136 = omega arith in
+    ap (λ (x : Hasher). takeBytes x m .at) (holding-part (plusByte s p b) (suc p) l) ∙ place m (plusByte s p b) (suc p) l ∙ f)
     (eq-or-lt-of-le h)
 
 pub sha3-padded : (m : List ℕ) → sha3 m ≡ output (stateOf (padded m) (length m / 136 + 1))

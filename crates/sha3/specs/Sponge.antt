@@ -122,10 +122,10 @@ unfolding plusLane
 plusLane-twice s k u v =
     set-set s k (bitXor (lane s k) u) (bitXor (lane (set s k (bitXor (lane s k) u)) k) v)
     ∙ ⊎-elim
-        (λ (h : k < length s).
-            ap (λ (x : ℕ). set s k (bitXor x v)) (getD-set-same s k (bitXor (lane s k) u) 0 h) ∙ ap (set s k) (xor-assoc (lane s k) u v))
-        (λ (h : length s ≤ k). set-out s k _ h ∙ sym (set-out s k _ h))
-        (below-or-not k (length s))
+    (λ (h : k < length s).
+    ap (λ (x : ℕ). set s k (bitXor x v)) (getD-set-same s k (bitXor (lane s k) u) 0 h) ∙ ap (set s k) (xor-assoc (lane s k) u v))
+    (λ (h : length s ≤ k). set-out s k _ h ∙ sym (set-out s k _ h))
+    (below-or-not k (length s))
 
 plusLane-none : (s : List ℕ) (k : ℕ) → plusLane s k 0 ≡ s
 unfolding plusLane
@@ -141,7 +141,7 @@ unfolding number
 shifted m b j =
     let e : 2 ^ (8 * suc j) ≡ 2 ^ 8 * 2 ^ (8 * j) = ap (λ (n : ℕ). 2 ^ n) (omega arith) ∙ pow-add 2 8 (8 * j) in
     let small : b % 2 ^ 8 * 2 ^ (8 * j) < 2 ^ (8 * suc j) =
-        subst (λ (n : ℕ). b % 2 ^ 8 * 2 ^ (8 * j) < 2 ^ n) (omega arith) (shl-lt 8 (8 * j) (mod-lt b (pow-pos 8)))
+    subst (λ (n : ℕ). b % 2 ^ 8 * 2 ^ (8 * j) < 2 ^ n) (omega arith) (shl-lt 8 (8 * j) (mod-lt b (pow-pos 8)))
     in
     xor-comm (b % 2 ^ 8 * 2 ^ (8 * j)) (number m * 2 ^ (8 * suc j))
     ∙ xor-shifted (number m) (8 * suc j) (b % 2 ^ 8 * 2 ^ (8 * j)) small

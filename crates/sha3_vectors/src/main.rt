@@ -108,7 +108,10 @@ fn around_blocks() {
 fn main() {
     example(b"empty ", b"");
     example(b"abc ", b"abc");
-    example(b"448-bits ", b"abcdbcdecdefdefgefghfghighijhijkijkljklmklmnlmnomnopnopq");
+    example(
+        b"448-bits ",
+        b"abcdbcdecdefdefgefghfghighijhijkijkljklmklmnlmnomnopnopq",
+    );
     example(
         b"896-bits ",
         b"abcdefghbcdefghicdefghijdefghijkefghijklfghijklmghijklmnhijklmnoijklmnopjklmnopqklmnopqrlmnopqrsmnopqrstnopqrstu",

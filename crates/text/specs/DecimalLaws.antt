@@ -1,4 +1,4 @@
--- That digit after digit makes a number's text, and how long it is. Assumes nothing.
+-- That digit after digit makes a number's text, how long it is, and that it reads back as the number. Assumes nothing.
 use Prim.Native.Nat.{ℕ, zero, suc, zero-le, suc-le-suc, _+_, _-_, _*_, _/_, _%_, _^_, _≤_, _<_}
 use mathlib.Core.Path.{_≡_, refl, sym, ap, _∙_}
 use mathlib.Core.Bool.{true, false, false≢true}

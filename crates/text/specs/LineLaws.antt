@@ -1,11 +1,15 @@
 -- The lines of an input that comes in parts. Assumes nothing.
-use Prim.Native.Nat.{ℕ, zero, suc, zero-le, suc-le-suc, _+_, _<_}
+use Prim.Native.Nat.{ℕ, zero, suc, zero-le, suc-le-suc, _+_, _≤_, _<_}
 use mathlib.Core.Path.{_≡_, sym, ap, _∙_}
 use mathlib.Core.List.{List, [], _∷_, _++_}
 use native.Mathlib.Nat.{not-suc-le-zero, le-of-suc-le-suc, suc-add, zero-add}
 use lib.ListN.{length, take, drop}
-use Rattle.text.specs.Pieces.{newline, placeOf, Without, pieces, butEmptyLast, linesOf, lastLine}
+use Rattle.text.specs.Pieces.{newline, placeOf, pieces, butEmptyLast, linesOf, lastLine}
 use Rattle.text.specs.PieceLaws.{index-hit, index-miss, by-test, by-place, pieces-one, pieces-more}
+
+-- a text has no such byte
+abbrev pub Without : ℕ → List ℕ → Type 0
+Without b s = length s ≤ placeOf b s
 
 module _ (b : ℕ) where
   -- the place of a byte in a text that is put together

@@ -1,5 +1,5 @@
 -- How a text's pieces go with the place of the byte that parts them. Assumes nothing.
-use Prim.Native.Nat.{ℕ, suc, _-_, _<_}
+use Prim.Native.Nat.{ℕ, suc, zero-le, suc-le-suc, _-_, _≤_, _<_}
 use mathlib.Core.Path.{_≡_, refl, ap, _∙_}
 use mathlib.Core.Bool.{Bool, true, false, and-false}
 use mathlib.Core.List.{List, [], _∷_}
@@ -12,7 +12,7 @@ use Rattle.bytes.specs.Bytes.{indexOf, indexAfter}
 use Rattle.text.specs.Cases.{either}
 use Rattle.text.specs.declared.number.Number.the-variants.{Bad}
 use Rattle.text.specs.Numeral.{isDigit, allDigits, isNumeral, numberOf, mostDigits}
-use Rattle.text.specs.Pieces.{newline, placeOf, Without, ontoFirst, pieces, allButLast, finished}
+use Rattle.text.specs.Pieces.{newline, placeOf, ontoFirst, pieces, allButLast, finished}
 
 -- the place of a byte in a list, by whether the first is it
 pub index-hit : (b x : ℕ) (s : List ℕ) → eqb x b ≡ true → indexOf b (x ∷ s) ≡ 0
@@ -32,6 +32,12 @@ by-test x sep hit miss = cases (eqb x sep) hit miss refl
     cases false hit miss e = miss e
 
 module _ (sep : ℕ) where
+  pub index-most : (s : List ℕ) → placeOf sep s ≤ length s
+  unfolding indexOf
+  index-most [] = zero-le
+  index-most (x ∷ s) =
+      by-test x sep (λ e. rw (index-hit sep x s e) zero-le) (λ e. rw (index-miss sep x s e) (suc-le-suc (index-most s)))
+
   pieces-hit : (x : ℕ) (s : List ℕ) → eqb x sep ≡ true → pieces sep (x ∷ s) ≡ [] ∷ pieces sep s
   unfolding pieces
   pieces-hit x s e = rw e
@@ -41,7 +47,7 @@ module _ (sep : ℕ) where
   pieces-miss x s e = rw e
 
   -- a text without the byte is one piece
-  pub pieces-one : (s : List ℕ) → Without sep s → pieces sep s ≡ s ∷ []
+  pub pieces-one : (s : List ℕ) → length s ≤ placeOf sep s → pieces sep s ≡ s ∷ []
   unfolding pieces ontoFirst
   pieces-one [] h = refl
   pieces-one (x ∷ s) h =
@@ -57,7 +63,7 @@ module _ (sep : ℕ) where
       (λ e. rw (pieces-miss x s e, index-miss sep x s e, pieces-more s (le-of-suc-le-suc (rw (index-miss sep x s e) at h))))
 
   -- a fact about a text, from what holds where it has the byte and where it has not
-  pub by-place : {A : Type 0} (s : List ℕ) → (Without sep s → A) → (placeOf sep s < length s → A) → A
+  pub by-place : {A : Type 0} (s : List ℕ) → (length s ≤ placeOf sep s → A) → (placeOf sep s < length s → A) → A
   by-place s without with = either (length s) (placeOf sep s) without with
 
   -- a string with a byte that is no digit is no number
@@ -78,7 +84,7 @@ module _ (sep : ℕ) where
   not-last p s = by-place s (λ h. rw (pieces-one s h)) (λ h. rw (pieces-more s h))
 
 -- the finished lines of a part of an input
-pub finished-none : (s : List ℕ) → Without newline s → finished s ≡ []
+pub finished-none : (s : List ℕ) → length s ≤ placeOf newline s → finished s ≡ []
 unfolding allButLast
 finished-none s h = ap allButLast (pieces-one newline s h)
 

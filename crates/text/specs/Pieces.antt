@@ -1,19 +1,14 @@
 -- A text cut into pieces: a line into words, an input into lines. Assumes nothing.
-use Prim.Native.Nat.{ℕ, _≤_}
+use Prim.Native.Nat.{ℕ}
 use Prim.Native.Char.{code}
 use mathlib.Core.Bool.{cond}
 use mathlib.Core.List.{List, [], _∷_}
-use lib.ListN.{length}
 use lib.Dec.{eqb}
 use Rattle.bytes.specs.Bytes.{indexOf}
 
 -- the place of a text's first byte that is b, or the text's length where none is
 abbrev pub placeOf : ℕ → List ℕ → ℕ
 placeOf b s = indexOf b s
-
--- a text has no byte that is b
-abbrev pub Without : ℕ → List ℕ → Type 0
-Without b s = length s ≤ placeOf b s
 
 -- the pieces of a text whose first byte is b, given those of the rest
 unfoldable pub ontoFirst : ℕ → List (List ℕ) → List (List ℕ)

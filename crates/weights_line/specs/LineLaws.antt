@@ -8,7 +8,7 @@ use lib.ListN.{length, take, drop}
 use lib.Dec.{leb}
 use borrow.Author.Tests.{le-leb, lt-leb}
 use Rattle.text.specs.Numeral.{numberOf, isDigit}
-use Rattle.text.specs.Pieces.{space, placeOf, Without, words}
+use Rattle.text.specs.Pieces.{space, placeOf, words}
 use Rattle.text.specs.PieceLaws.{pieces-one, pieces-more, by-place, no-number}
 use Rattle.text.specs.declared.number.Number.{Number}
 use Rattle.text.specs.declared.number.Number.the-variants as number
@@ -68,7 +68,7 @@ module _ (s : List ℕ) where
   unfolding lineOf
   by-words h = rw (le-leb (length s) mostBytes h)
 
-  pub one-word : length s ≤ mostBytes → Without space s → line.Bad ≡ lineOf s
+  pub one-word : length s ≤ mostBytes → length s ≤ placeOf space s → line.Bad ≡ lineOf s
   unfolding fromWords
   one-word h i = sym (by-words h ∙ ap fromWords (pieces-one space s i))
 
@@ -80,7 +80,7 @@ module _ (s : List ℕ) where
         ∙ ap fromWords (pieces-more space s (rw at-i at inside))
         ∙ rw (after-i, add-one i, at-i)
 
-    pub two-words : Without space rest → line.Bad ≡ lineOf s
+    pub two-words : length rest ≤ placeOf space rest → line.Bad ≡ lineOf s
     unfolding fromWords
     two-words h = sym (from-rest ∙ rw (pieces-one space rest h))
 

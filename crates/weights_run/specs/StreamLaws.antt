@@ -1,12 +1,12 @@
 -- The way of the loop that answers lines one after the other. Assumes nothing.
 use Prim.Native.Nat.{ℕ, zero-le, suc, _+_, _-_, _*_, _/_, _≤_, _<_}
-use mathlib.Core.Path.{_≡_, sym, ap, _∙_}
+use mathlib.Core.Path.{_≡_, refl, sym, ap, _∙_}
 use mathlib.Core.List.{List, [], _∷_, _++_, append-assoc, append-nil}
 use native.Mathlib.Omega.{arith}
 use native.Mathlib.Numerals.{add-one}
 use lib.ListN.{length, take, drop, length-drop}
 use lib.Seq.{take-nil, drop-drop, length-take-le}
-use Rattle.text.specs.Pieces.{newline, placeOf, Without, finished}
+use Rattle.text.specs.Pieces.{newline, placeOf, finished}
 use Rattle.text.specs.PieceLaws.{finished-none, finished-more}
 use Rattle.text.specs.Put.{Page, page, over, putAt, keptOf}
 use Rattle.text.specs.PutLaws.{put-fits, put-front, put-within, take-over, drop-over, length-over}
@@ -57,7 +57,7 @@ module _ (part first out : List ℕ) (left used written : ℕ) (g : Going part f
       let put = put-front first out written (omega (arith, g .room)) (g .same-size) (g .same-rest) in
       rw (whole, used-up, put)
 
-  pub going-none : Without newline (drop used part) → record { used = used; output = page out written } ≡ answeredOf part first
+  pub going-none : length (drop used part) ≤ placeOf newline (drop used part) → record { used = used; output = page out written } ≡ answeredOf part first
   going-none h = done (rw (finished-none (drop used part) h) (take-nil left))
 
   pub going-full : left ≡ 0 → record { used = used; output = page out written } ≡ answeredOf part first

@@ -9,9 +9,9 @@ use lib.ListN.{length, take, drop, length-take, length-drop, length-append}
 use lib.Seq.{length-take-le, take-all, take-append-le, drop-append-le, take-append-add, drop-append-add, drop-drop}
 use Rattle.text.specs.Cases.{either}
 use Rattle.text.specs.Ascii.{ascii}
-use Rattle.text.specs.Pieces.{newline, placeOf, Without, linesOf, finished, lastLine}
+use Rattle.text.specs.Pieces.{newline, placeOf, linesOf, finished, lastLine}
 use Rattle.text.specs.PieceLaws.{by-place, finished-none, finished-more}
-use Rattle.text.specs.LineLaws.{place-in-first, place-in-second, without-front, lines-more, lines-last}
+use Rattle.text.specs.LineLaws.{Without, place-in-first, place-in-second, without-front, lines-more, lines-last}
 use Rattle.text.specs.Put.{putAt, partOf, keptOf}
 use Rattle.text.specs.PutLaws.{put-fits, take-over}
 use Rattle.weights_line.specs.Rules.{mostBytes, answerOf}

@@ -30,14 +30,14 @@ loop-holds c =
     let args = c .before .before .before .args in
     (omega arith, update .ensures .1 _ (new .ensures) ∙ ap after (joined-none (args .key .now)))
 
-mul-id-bytes : tie.Need-mul-id-bytes Inv-loop μ-loop
-mul-id-bytes c = search needs
+mul-whole : tie.Need-mul-whole Inv-loop μ-loop
+mul-whole c = search needs
 
-shared-slice-element-id-bytes : tie.Need-shared-slice-element-id-bytes Inv-loop μ-loop
-shared-slice-element-id-bytes c = search needs
+shared-slice-copy-out-whole : tie.Need-shared-slice-copy-out-whole Inv-loop μ-loop
+shared-slice-copy-out-whole c = search needs
 
-id-bytes-requires : tie.Need-id-bytes-requires Inv-loop μ-loop
-id-bytes-requires c κs = search needs
+whole-requires : tie.Need-whole-requires Inv-loop μ-loop
+whole-requires c κs = search needs
 
 slice-aggregate-update : tie.Need-slice-aggregate-update Inv-loop μ-loop
 slice-aggregate-update c = search needs
@@ -56,7 +56,7 @@ loop-again c =
     let the-loop = c .before .before .before .before .before .loop in
     let args = c .before .before .before .before .before .before .before .before .before .args in
     let update2 = c .update2 in
-    let id-bytes = c .before .before .id-bytes in
+    let whole = c .before .before .whole in
     let loop-test = c .before .before .before .before .loop-test in
     let i = the-loop .i in
     let ps = args .parents .now in
@@ -65,7 +65,7 @@ loop-again c =
       update2 .ensures .1 _ (the-loop .inv .1)
           ∙ ap after
           (append-assoc key (joined (take i ps)) _
-          ∙ ap (λ (m : List ℕ). key ++ (joined (take i ps) ++ m)) (id-bytes .ensures)
+          ∙ ap (λ (m : List ℕ). key ++ (joined (take i ps) ++ m)) (whole .ensures .0)
           ∙ ap (λ (m : List ℕ). key ++ m) (joined-more ps i (loop-test .taken))),
     )
 
@@ -108,9 +108,9 @@ work-hash-spec =
     new-requires
     update-requires
     loop-holds
-    mul-id-bytes
-    shared-slice-element-id-bytes
-    id-bytes-requires
+    mul-whole
+    shared-slice-copy-out-whole
+    whole-requires
     slice-aggregate-update
     update-requires-2
     add-i

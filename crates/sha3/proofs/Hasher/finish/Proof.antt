@@ -69,7 +69,7 @@ filled p j n z e ez ee en =
     let a : List ℕ = set (zeros (p + suc j)) p 6 in
     let t : List ℕ = 6 ∷ zeros j in
     let v : bitOr (getD a (p + j) 0) 128 ≡ bitOr (getD t j 0) 128 =
-        ap (λ (x : ℕ). bitOr x 128) (sym (getD-drop p a j 0) ∙ ap (λ (l : List ℕ). getD l j 0) (begun p j))
+    ap (λ (x : ℕ). bitOr x 128) (sym (getD-drop p a j 0) ∙ ap (λ (l : List ℕ). getD l j 0) (begun p j))
     in
     (λ i. take (en i) (drop p (set (set (zeros (ez i)) p 6) (ee i) (bitOr (getD (set (zeros (ez i)) p 6) (ee i) 0) 128))))
     ∙ ap (take (suc j)) (drop-set-add p a j (bitOr (getD a (p + j) 0) 128) ∙ ap₂ (λ (l : List ℕ) (x : ℕ). set l j x) (begun p j) v)

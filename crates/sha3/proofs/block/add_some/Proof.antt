@@ -55,7 +55,7 @@ three : (s m a b r : List ℕ) (p from n head lanes : ℕ) → head + lanes ≤ 
 three s m a b r p from n head lanes h l ea eb er =
     let e : (head + lanes) + (n - (head + lanes)) ≡ n = omega arith in
     let two : b ≡ plusBytes s p (take (head + lanes) (drop from m)) =
-        eb ∙ ap (λ (x : List ℕ). plusBytes x (p + head) (take lanes (drop (from + head) m))) ea ∙ plusBytes-then s m p from head lanes (omega arith)
+    eb ∙ ap (λ (x : List ℕ). plusBytes x (p + head) (take lanes (drop (from + head) m))) ea ∙ plusBytes-then s m p from head lanes (omega arith)
     in
     er
     ∙ ap (λ (x : List ℕ). plusBytes x (p + (head + lanes)) (take (n - (head + lanes)) (drop (from + (head + lanes)) m))) two

@@ -121,8 +121,8 @@ part n i m h =
     let l : length (take n (drop i m)) ≡ n = length-take-le n (drop i m) (omega (arith, length-drop i m)) in
     ext-getD 0 (listed n 0 (past m i)) (take n (drop i m)) (listed-length n 0 (past m i) ∙ sym l)
     (λ k g.
-        let lt : k < n = omega (arith, listed-length n 0 (past m i)) in
-        listed-at n k (past m i) lt ∙ past-is m i k ∙ sym (getD-take n (drop i m) k 0 lt ∙ getD-drop i m k 0))
+    let lt : k < n = omega (arith, listed-length n 0 (past m i)) in
+    listed-at n k (past m i) lt ∙ past-is m i k ∙ sym (getD-take n (drop i m) k 0 lt ∙ getD-drop i m k 0))
 
 loaded : (m : List ℕ) (i : ℕ) → i + 8 ≤ length m → ((k : ℕ) → getD m k 0 < 2 ^ 8)
     → bitOr (bitOr (bitOr (bitOr (bitOr (bitOr (bitOr (getD m i 0) (getD m (i + 1) 0 * 2 ^ 8 % 2 ^ 64)) (getD m (i + 2) 0 * 2 ^ 16 % 2 ^ 64)) (getD m (i + 3) 0 * 2 ^ 24 % 2 ^ 64)) (getD m (i + 4) 0 * 2 ^ 32 % 2 ^ 64)) (getD m (i + 5) 0 * 2 ^ 40 % 2 ^ 64)) (getD m (i + 6) 0 * 2 ^ 48 % 2 ^ 64)) (getD m (i + 7) 0 * 2 ^ 56 % 2 ^ 64)

@@ -29,10 +29,10 @@ one-more s l i h f k g =
     let le : k ≤ i = omega arith in
     ⊎-elim
     (λ (e : k ≡ i).
-        ap (λ (j : ℕ). getD (set l i (bitAnd (lane s (i / 8) / 2 ^ (8 * (i % 8))) 255)) j 0) e
-        ∙ getD-set-same l i (bitAnd (lane s (i / 8) / 2 ^ (8 * (i % 8))) 255) 0 h
-        ∙ and-mask (lane s (i / 8) / 2 ^ (8 * (i % 8))) 8
-        ∙ ap (byteOf s) (sym e))
+    ap (λ (j : ℕ). getD (set l i (bitAnd (lane s (i / 8) / 2 ^ (8 * (i % 8))) 255)) j 0) e
+    ∙ getD-set-same l i (bitAnd (lane s (i / 8) / 2 ^ (8 * (i % 8))) 255) 0 h
+    ∙ and-mask (lane s (i / 8) / 2 ^ (8 * (i % 8))) 8
+    ∙ ap (byteOf s) (sym e))
     (λ (b : k < i). getD-set-other l i k (bitAnd (lane s (i / 8) / 2 ^ (8 * (i % 8))) 255) 0 (λ (e : k ≡ i). omega arith) ∙ f k b)
     (eq-or-lt-of-le le)
 
