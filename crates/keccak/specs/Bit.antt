@@ -1,13 +1,13 @@
 -- The single bits of what the machine's operations give.
 use mathlib.Core.Path.{_≡_, refl, sym, ap, ap₂, _∙_, subst}
 use mathlib.Core.Logic.{_⊎_, inl, inr, ⊎-elim}
-use Prim.Native.Nat.{ℕ, zero, suc, _+_, _-_, _*_, _/_, _%_, _^_, _≤_, _<_, min}
-use native.Mathlib.Nat.{not-suc-le-zero, le-of-suc-le-suc, mod-lt, eq-zero-or-pos, pow-suc, add-comm, mul-mod-left, add-zero, eq-or-lt-of-le, lt-of-lt-of-le, zero-div, div-eq-of-lt}
+use Prim.Native.Nat.{ℕ, zero, suc, _+_, _-_, _*_, _/_, _%_, _^_, _≤_, _<_, min, max}
+use native.Mathlib.Nat.{not-suc-le-zero, le-of-suc-le-suc, mod-lt, eq-zero-or-pos, pow-suc, add-comm, mul-mod-left, add-zero, add-assoc, eq-or-lt-of-le, lt-of-lt-of-le, zero-div, div-eq-of-lt}
 use native.Mathlib.Omega.{arith}
 use lib.Arith.{digits-mod}
 use lib.Dec.{lit<}
 use lib.Pow.{pow-pos, pow-mono, high, low, shr-shr, shr-lt, shr-le, mod-pow-add, mod-mod-pow, field, shl-shr}
-use lib.Bits.{bitXor, bitAnd, bitOr, differ, xor-step, and-step, xor-shr, xor-zero-l, and-shr, or-shifted, or-self, or-lt}
+use lib.Bits.{bitXor, bitAnd, bitOr, differ, xor-step, and-step, or-step, xor-shr, or-shr, xor-zero-l, and-shr, or-shifted, or-self, or-lt}
 use Rattle.keccak.specs.Fips202.{_⊕_, bit}
 use Rattle.keccak.specs.Each.{agree}
 use Rattle.keccak.specs.Lanes.{turned}
@@ -24,14 +24,24 @@ equal-or-not a b =
 odd : (a : ℕ) → a % 2 < 2
 odd a = mod-lt a (lit< tt)
 
+-- a sum's parity, however it is bracketed
 sum-left : (p q r : ℕ) → (p ⊕ q) ⊕ r ≡ (p + q + r) % 2
 sum-left p q r = omega arith
 
 sum-right : (p q r : ℕ) → p ⊕ (q ⊕ r) ≡ (p + q + r) % 2
 sum-right p q r = omega arith
 
+sum-pairs : (p q r s : ℕ) → (p ⊕ q) ⊕ (r ⊕ s) ≡ (p + q + (r + s)) % 2
+sum-pairs p q r s = sum-left p q (r ⊕ s) ∙ sum-right (p + q) r s ∙ ap (λ (n : ℕ). n % 2) (add-assoc (p + q) r s)
+
 pub plus-assoc : (p q r : ℕ) → (p ⊕ q) ⊕ r ≡ p ⊕ (q ⊕ r)
 plus-assoc p q r = sum-left p q r ∙ sym (sum-right p q r)
+
+pub plus-swap : (p f q g : ℕ) → (p ⊕ f) ⊕ (q ⊕ g) ≡ (p ⊕ q) ⊕ (f ⊕ g)
+plus-swap p f q g = let e : p + f + (q + g) ≡ p + q + (f + g) = omega arith in sum-pairs p f q g ∙ ap (λ (n : ℕ). n % 2) e ∙ sym (sum-pairs p q f g)
+
+pub plus-comm : (p q : ℕ) → p ⊕ q ≡ q ⊕ p
+plus-comm p q = ap (λ (n : ℕ). n % 2) (add-comm p q)
 
 pub plus-zero : (v : ℕ) → v % 2 ≡ v % 2 ⊕ 0
 plus-zero v = omega arith
@@ -44,6 +54,9 @@ differ-is = agree 2 2 differ _⊕_ tt
 
 min-is : (x y : ℕ) → x < 2 → y < 2 → min x y ≡ x * y
 min-is = agree 2 2 min _*_ tt
+
+max-lt : (x y : ℕ) → x < 2 → y < 2 → max x y < 2
+max-lt x y hx hy = omega arith
 
 product-lt : (x y : ℕ) → x < 2 → y < 2 → x * y < 2
 product-lt x y hx hy = subst (λ (n : ℕ). n < 2) (min-is x y hx hy) (omega arith)
@@ -59,6 +72,9 @@ and-odd a b =
     ap (λ (n : ℕ). n % 2) (and-step a b)
     ∙ ap (λ (d : ℕ). (bitAnd (a / 2) (b / 2) * 2 + d) % 2) (min-is (a % 2) (b % 2) (odd a) (odd b))
     ∙ digits-mod (bitAnd (a / 2) (b / 2)) (product-lt (a % 2) (b % 2) (odd a) (odd b))
+
+or-odd : (a b : ℕ) → bitOr a b % 2 ≡ max (a % 2) (b % 2)
+or-odd a b = ap (λ (n : ℕ). n % 2) (or-step a b) ∙ digits-mod (bitOr (a / 2) (b / 2)) (max-lt (a % 2) (b % 2) (odd a) (odd b))
 
 xor-by-bits : (a b : ℕ) → bitXor a b ≡ bitXor (a / 2) (b / 2) * 2 + (a % 2 ⊕ b % 2)
 xor-by-bits a b =
@@ -87,6 +103,9 @@ xor-bit a b i = ap (λ (n : ℕ). n % 2) (xor-shr a b i) ∙ xor-odd (a / 2 ^ i)
 
 pub and-bit : (a b i : ℕ) → bit (bitAnd a b) i ≡ bit a i * bit b i
 and-bit a b i = ap (λ (n : ℕ). n % 2) (and-shr a b i) ∙ and-odd (a / 2 ^ i) (b / 2 ^ i)
+
+pub or-bit : (a b i : ℕ) → bit (bitOr a b) i ≡ max (bit a i) (bit b i)
+or-bit a b i = ap (λ (n : ℕ). n % 2) (or-shr a b i) ∙ or-odd (a / 2 ^ i) (b / 2 ^ i)
 
 -- the complement in k bits
 half-bit : (a i : ℕ) → bit a (suc i) ≡ bit (a / 2) i

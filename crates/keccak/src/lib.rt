@@ -1,8 +1,10 @@
 ghost use mathlib.Core.Path.{_≡_};
-ghost use Prim.Native.Nat.{_<_, _+_, _*_, _/_, _%_, _-_};
-ghost use lib.Bits.{bitXor};
+ghost use Prim.Native.Nat.{_<_};
+ghost use lib.ListN.{length};
+ghost use lib.Seq.{sets};
 ghost use Rattle.keccak.specs.Fips202.{listed};
-ghost use Rattle.keccak.specs.Lanes.{lane, turned, rotation, constantOf, parity, effect, effects, theta, rho, chi, origin, spread, mixed, permuted};
+ghost use Rattle.keccak.specs.Lanes.{lane, turned, rotation, parity, effects, brought, mixed, roundOf, constantOf, veiled, permuted};
+ghost use Rattle.keccak.specs.Lanes.{moved as Lanes·moved};
 
 const ROTATIONS: [u64; 25] = [
     0,
@@ -78,15 +80,16 @@ fn round_constants() -> [u64; 24]
     ROUND_CONSTANTS
 }
 
-fn column(a: [u64; 25], x: usize) -> u64
-    requires { ⌜ x < 5 ⌝ }
-    ensures { λ r. ⌜ r ≡ parity (lane a) x ⌝ }
+fn column(a: &[u64; 25], x: usize) -> u64
+    requires { ⌜ (x < 5) × (length (now a) ≡ 25) ⌝ }
+    ensures { λ r. ⌜ r ≡ parity (lane (now (a .entry))) x ⌝ }
 {
     a[x] ^ a[x + 5] ^ a[x + 10] ^ a[x + 15] ^ a[x + 20]
 }
 
-fn from_columns(a: [u64; 25]) -> [u64; 5]
-    ensures { λ r. ⌜ r ≡ effects a ⌝ }
+fn from_columns(a: &[u64; 25]) -> [u64; 5]
+    requires { ⌜ length (now a) ≡ 25 ⌝ }
+    ensures { λ r. ⌜ r ≡ effects (now (a .entry)) ⌝ }
 {
     let c0 = column(a, 0);
     let c1 = column(a, 1);
@@ -102,97 +105,155 @@ fn from_columns(a: [u64; 25]) -> [u64; 5]
     ]
 }
 
-fn moved(a: [u64; 25], d: [u64; 5], i: usize) -> u64
-    requires { ⌜ i < 25 ⌝ }
-    ensures { λ r. ⌜ r ≡ turned (bitXor (lane a i) (lane d (i % 5))) (rotation i) ⌝ }
+fn moved(a: &[u64; 25], d: [u64; 5], i: usize) -> u64
+    requires { ⌜ (i < 25) × (length (now a) ≡ 25) ⌝ }
+    ensures { λ r. ⌜ r ≡ Lanes·moved (lane (now (a .entry))) (lane d) i ⌝ }
 {
     let n = rotations();
     rotate(a[i] ^ d[i % 5], n[i])
 }
 
-fn theta_rho_pi(a: [u64; 25]) -> [u64; 25]
-    ensures { λ r. ⌜ r ≡ spread a ⌝ }
+fn plane_0(a: &[u64; 25], d: [u64; 5], e: &mut [u64; 25])
+    requires { ⌜ (length (now a) ≡ 25) × (length (now e) ≡ 25) ⌝ }
+    ensures { λ r. ⌜ now (e .exit) ≡ sets (now (e .entry)) 0 (listed 5 0 (mixed (brought (lane (now (a .entry))) (lane d)))) ⌝ }
+    ensures { λ r. ⌜ length (now (e .exit)) ≡ 25 ⌝ }
+{
+    let b0 = moved(a, d, 0);
+    let b1 = moved(a, d, 6);
+    let b2 = moved(a, d, 12);
+    let b3 = moved(a, d, 18);
+    let b4 = moved(a, d, 24);
+    e[0] = b0 ^ (b1 | b2);
+    e[1] = b1 ^ (!b2 | b3);
+    e[2] = b2 ^ (b3 & b4);
+    e[3] = b3 ^ (b4 | b0);
+    e[4] = b4 ^ (b0 & b1);
+}
+
+fn plane_1(a: &[u64; 25], d: [u64; 5], e: &mut [u64; 25])
+    requires { ⌜ (length (now a) ≡ 25) × (length (now e) ≡ 25) ⌝ }
+    ensures { λ r. ⌜ now (e .exit) ≡ sets (now (e .entry)) 5 (listed 5 5 (mixed (brought (lane (now (a .entry))) (lane d)))) ⌝ }
+    ensures { λ r. ⌜ length (now (e .exit)) ≡ 25 ⌝ }
+{
+    let b0 = moved(a, d, 3);
+    let b1 = moved(a, d, 9);
+    let b2 = moved(a, d, 10);
+    let b3 = moved(a, d, 16);
+    let b4 = moved(a, d, 22);
+    e[5] = b0 ^ (b1 | b2);
+    e[6] = b1 ^ (b2 & b3);
+    e[7] = b2 ^ (b3 | !b4);
+    e[8] = b3 ^ (b4 | b0);
+    e[9] = b4 ^ (b0 & b1);
+}
+
+fn plane_2(a: &[u64; 25], d: [u64; 5], e: &mut [u64; 25])
+    requires { ⌜ (length (now a) ≡ 25) × (length (now e) ≡ 25) ⌝ }
+    ensures { λ r. ⌜ now (e .exit) ≡ sets (now (e .entry)) 10 (listed 5 10 (mixed (brought (lane (now (a .entry))) (lane d)))) ⌝ }
+    ensures { λ r. ⌜ length (now (e .exit)) ≡ 25 ⌝ }
+{
+    let b0 = moved(a, d, 1);
+    let b1 = moved(a, d, 7);
+    let b2 = moved(a, d, 13);
+    let b3 = moved(a, d, 19);
+    let b4 = moved(a, d, 20);
+    e[10] = b0 ^ (b1 | b2);
+    e[11] = b1 ^ (b2 & b3);
+    e[12] = b2 ^ (!b3 & b4);
+    e[13] = !b3 ^ (b4 | b0);
+    e[14] = b4 ^ (b0 & b1);
+}
+
+fn plane_3(a: &[u64; 25], d: [u64; 5], e: &mut [u64; 25])
+    requires { ⌜ (length (now a) ≡ 25) × (length (now e) ≡ 25) ⌝ }
+    ensures { λ r. ⌜ now (e .exit) ≡ sets (now (e .entry)) 15 (listed 5 15 (mixed (brought (lane (now (a .entry))) (lane d)))) ⌝ }
+    ensures { λ r. ⌜ length (now (e .exit)) ≡ 25 ⌝ }
+{
+    let b0 = moved(a, d, 4);
+    let b1 = moved(a, d, 5);
+    let b2 = moved(a, d, 11);
+    let b3 = moved(a, d, 17);
+    let b4 = moved(a, d, 23);
+    e[15] = b0 ^ (b1 & b2);
+    e[16] = b1 ^ (b2 | b3);
+    e[17] = b2 ^ (!b3 | b4);
+    e[18] = !b3 ^ (b4 & b0);
+    e[19] = b4 ^ (b0 | b1);
+}
+
+fn plane_4(a: &[u64; 25], d: [u64; 5], e: &mut [u64; 25])
+    requires { ⌜ (length (now a) ≡ 25) × (length (now e) ≡ 25) ⌝ }
+    ensures { λ r. ⌜ now (e .exit) ≡ sets (now (e .entry)) 20 (listed 5 20 (mixed (brought (lane (now (a .entry))) (lane d)))) ⌝ }
+    ensures { λ r. ⌜ length (now (e .exit)) ≡ 25 ⌝ }
+{
+    let b0 = moved(a, d, 2);
+    let b1 = moved(a, d, 8);
+    let b2 = moved(a, d, 14);
+    let b3 = moved(a, d, 15);
+    let b4 = moved(a, d, 21);
+    e[20] = b0 ^ (!b1 & b2);
+    e[21] = !b1 ^ (b2 | b3);
+    e[22] = b2 ^ (b3 & b4);
+    e[23] = b3 ^ (b4 | b0);
+    e[24] = b4 ^ (b0 & b1);
+}
+
+fn round(a: &[u64; 25], e: &mut [u64; 25], constant: u64)
+    requires { ⌜ (length (now a) ≡ 25) × (length (now e) ≡ 25) ⌝ }
+    ensures { λ r. ⌜ now (e .exit) ≡ roundOf constant (now (a .entry)) ⌝ }
 {
     let d = from_columns(a);
-    [
-        moved(a, d, 0),
-        moved(a, d, 6),
-        moved(a, d, 12),
-        moved(a, d, 18),
-        moved(a, d, 24),
-        moved(a, d, 3),
-        moved(a, d, 9),
-        moved(a, d, 10),
-        moved(a, d, 16),
-        moved(a, d, 22),
-        moved(a, d, 1),
-        moved(a, d, 7),
-        moved(a, d, 13),
-        moved(a, d, 19),
-        moved(a, d, 20),
-        moved(a, d, 4),
-        moved(a, d, 5),
-        moved(a, d, 11),
-        moved(a, d, 17),
-        moved(a, d, 23),
-        moved(a, d, 2),
-        moved(a, d, 8),
-        moved(a, d, 14),
-        moved(a, d, 15),
-        moved(a, d, 21),
-    ]
+    plane_0(a, d, e);
+    plane_1(a, d, e);
+    plane_2(a, d, e);
+    plane_3(a, d, e);
+    plane_4(a, d, e);
+    e[0] = e[0] ^ constant;
 }
 
-fn chi_lane(b: [u64; 25], i: usize) -> u64
-    requires { ⌜ i < 25 ⌝ }
-    ensures { λ r. ⌜ r ≡ chi (lane b) i ⌝ }
-{
-    let row = i / 5 * 5;
-    b[i] ^ (!b[row + (i % 5 + 1) % 5] & b[row + (i % 5 + 2) % 5])
-}
-
-fn chi_iota(b: [u64; 25], constant: u64) -> [u64; 25]
-    ensures { λ r. ⌜ r ≡ mixed constant b ⌝ }
+fn veil(a: [u64; 25]) -> [u64; 25]
+    ensures { λ r. ⌜ r ≡ veiled a ⌝ }
 {
     [
-        chi_lane(b, 0) ^ constant,
-        chi_lane(b, 1),
-        chi_lane(b, 2),
-        chi_lane(b, 3),
-        chi_lane(b, 4),
-        chi_lane(b, 5),
-        chi_lane(b, 6),
-        chi_lane(b, 7),
-        chi_lane(b, 8),
-        chi_lane(b, 9),
-        chi_lane(b, 10),
-        chi_lane(b, 11),
-        chi_lane(b, 12),
-        chi_lane(b, 13),
-        chi_lane(b, 14),
-        chi_lane(b, 15),
-        chi_lane(b, 16),
-        chi_lane(b, 17),
-        chi_lane(b, 18),
-        chi_lane(b, 19),
-        chi_lane(b, 20),
-        chi_lane(b, 21),
-        chi_lane(b, 22),
-        chi_lane(b, 23),
-        chi_lane(b, 24),
+        a[0],
+        !a[1],
+        !a[2],
+        a[3],
+        a[4],
+        a[5],
+        a[6],
+        a[7],
+        !a[8],
+        a[9],
+        a[10],
+        a[11],
+        !a[12],
+        a[13],
+        a[14],
+        a[15],
+        a[16],
+        !a[17],
+        a[18],
+        a[19],
+        !a[20],
+        a[21],
+        a[22],
+        a[23],
+        a[24],
     ]
 }
 
 pub fn permute(a: [u64; 25]) -> [u64; 25]
     ensures { λ r. ⌜ r ≡ permuted a ⌝ }
 {
-    let mut s = a;
+    let mut s = veil(a);
+    let mut t = [0u64; 25];
     let constants = round_constants();
     let mut i = 0;
     while i < 24 {
-        let t = chi_iota(theta_rho_pi(s), constants[i]);
-        s = t;
-        i += 1;
+        round(&s, &mut t, constants[i]);
+        round(&t, &mut s, constants[i + 1]);
+        i += 2;
     }
-    s
+    veil(s)
 }

@@ -7,8 +7,8 @@ use Rattle.keccak.proofs.column.Tie as tie
 mul-result : tie.Need-mul-result
 mul-result c = search needs
 
-array-read-result : tie.Need-array-read-result
-array-read-result c = search needs
+element-copy-out-result : tie.Need-element-copy-out-result
+element-copy-out-result c = search needs
 
 add-result : tie.Need-add-result
 add-result c = search needs
@@ -16,8 +16,8 @@ add-result c = search needs
 mul-result-2 : tie.Need-mul-result-2
 mul-result-2 c = search needs
 
-array-read-result-2 : tie.Need-array-read-result-2
-array-read-result-2 c = search needs
+element-copy-out-result-2 : tie.Need-element-copy-out-result-2
+element-copy-out-result-2 c = search needs
 
 add-result-2 : tie.Need-add-result-2
 add-result-2 c = search needs
@@ -25,8 +25,8 @@ add-result-2 c = search needs
 mul-result-3 : tie.Need-mul-result-3
 mul-result-3 c = search needs
 
-array-read-result-3 : tie.Need-array-read-result-3
-array-read-result-3 c = search needs
+element-copy-out-result-3 : tie.Need-element-copy-out-result-3
+element-copy-out-result-3 c = search needs
 
 add-result-3 : tie.Need-add-result-3
 add-result-3 c = search needs
@@ -34,8 +34,8 @@ add-result-3 c = search needs
 mul-result-4 : tie.Need-mul-result-4
 mul-result-4 c = search needs
 
-array-read-result-4 : tie.Need-array-read-result-4
-array-read-result-4 c = search needs
+element-copy-out-result-4 : tie.Need-element-copy-out-result-4
+element-copy-out-result-4 c = search needs
 
 add-result-4 : tie.Need-add-result-4
 add-result-4 c = search needs
@@ -43,8 +43,8 @@ add-result-4 c = search needs
 mul-result-5 : tie.Need-mul-result-5
 mul-result-5 c = search needs
 
-array-read-result-5 : tie.Need-array-read-result-5
-array-read-result-5 c = search needs
+element-copy-out-result-5 : tie.Need-element-copy-out-result-5
+element-copy-out-result-5 c = search needs
 
 returns : tie.Need-returns
 unfolding parity
@@ -55,17 +55,17 @@ column-spec =
     tie.close
     (tie.spec
     mul-result
-    array-read-result
+    element-copy-out-result
     add-result
     mul-result-2
-    array-read-result-2
+    element-copy-out-result-2
     add-result-2
     mul-result-3
-    array-read-result-3
+    element-copy-out-result-3
     add-result-3
     mul-result-4
-    array-read-result-4
+    element-copy-out-result-4
     add-result-4
     mul-result-5
-    array-read-result-5
+    element-copy-out-result-5
     returns)

@@ -7,7 +7,7 @@ use native.Mathlib.Nat.{mod-lt}
 use lib.Dec.{lit<}
 use lib.ListN.{getD}
 use Rattle.keccak.specs.Fips202.{listed, offset}
-use Rattle.keccak.specs.Lanes.{turned, rotation}
+use Rattle.keccak.specs.Lanes.{turned, rotation, moved}
 use Rattle.keccak.specs.Strings.{listed-at}
 use Rattle.keccak.proofs.moved.Statement.{statement}
 use Rattle.keccak.proofs.moved.Tie as tie
@@ -25,30 +25,34 @@ rotations-requires c κs = search needs
 mul-rotate : tie.Need-mul-rotate
 mul-rotate c = search needs
 
-array-read-rotate : tie.Need-array-read-rotate
-array-read-rotate c = search needs
+element-copy-out-rotate : tie.Need-element-copy-out-rotate
+element-copy-out-rotate c = search needs
 
 mul-rotate-2 : tie.Need-mul-rotate-2
 mul-rotate-2 c = search needs
 
-array-read-rotate-2 : tie.Need-array-read-rotate-2
-array-read-rotate-2 c = search needs
+array-read-rotate : tie.Need-array-read-rotate
+array-read-rotate c = search needs
 
 mul-rotate-3 : tie.Need-mul-rotate-3
 mul-rotate-3 c = search needs
 
-array-read-rotate-3 : tie.Need-array-read-rotate-3
-array-read-rotate-3 c = search needs
+array-read-rotate-2 : tie.Need-array-read-rotate-2
+array-read-rotate-2 c = search needs
 
 rotate-requires : tie.Need-rotate-requires
 rotate-requires c κs =
-    let e = entry (c .rotations .result) (c .before .args .i) (c .rotations .ensures) (c .before .pre) in
-    subst (λ (n : ℕ). n < 64) (sym e) (small (c .before .args .i))
+    let table = c .before in
+    let start = table .before in
+    let e = entry (table .rotations .result) (start .args .i) (table .rotations .ensures) (start .pre .0) in
+    subst (λ (n : ℕ). n < 64) (sym e) (small (start .args .i))
 
 returns : tie.Need-returns
+unfolding moved
 returns c =
-    let r = c .before in
-    c .rotate .ensures ∙ ap (turned _) (entry (r .rotations .result) (r .before .args .i) (r .rotations .ensures) (r .before .pre))
+    let table = c .before .before in
+    let start = table .before in
+    c .rotate .ensures ∙ ap (turned _) (entry (table .rotations .result) (start .args .i) (table .rotations .ensures) (start .pre .0))
 
 pub moved-spec : {M : Type 1} → statement M
 moved-spec =
@@ -56,10 +60,10 @@ moved-spec =
     (tie.spec
     rotations-requires
     mul-rotate
-    array-read-rotate
+    element-copy-out-rotate
     mul-rotate-2
-    array-read-rotate-2
+    array-read-rotate
     mul-rotate-3
-    array-read-rotate-3
+    array-read-rotate-2
     rotate-requires
     returns)
