@@ -1,0 +1,7 @@
+pub mod Naming
+pub mod Numbers
+pub mod Located
+pub mod Parts
+pub mod Loops
+pub mod Named
+pub mod Kept

@@ -1,0 +1,12 @@
+pub mod Limits
+pub mod Tables
+pub mod Sound
+pub mod Facts
+pub mod Columns
+pub mod Views
+pub mod Kept
+pub mod Chains
+pub mod Empty
+pub mod Check
+pub mod Steps
+pub mod Same
