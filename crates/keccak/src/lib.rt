@@ -1,3 +1,7 @@
+// KECCAK-p[1600, 24], the permutation of FIPS 202, on 25 lanes of 64 bits: lane (x, y) stands at 5 y + x.
+//
+// Six lanes are kept complemented between the rounds (`veil`), which spares most of the complements of χ: where a lane is
+// complemented, an `and` becomes an `or`. specs/Lanes has the rounds so, specs/Link that their bits are FIPS 202's.
 ghost use mathlib.Core.Path.{_≡_};
 ghost use Prim.Native.Nat.{_<_};
 ghost use lib.ListN.{length};
@@ -6,6 +10,7 @@ ghost use Rattle.keccak.specs.Fips202.{listed};
 ghost use Rattle.keccak.specs.Lanes.{lane, turned, rotation, parity, effects, brought, mixed, roundOf, constantOf, veiled, permuted};
 ghost use Rattle.keccak.specs.Lanes.{moved as Lanes·moved};
 
+// How far ρ turns each lane. One computed test holds the list to the walk of FIPS 202, Algorithm 2 (proofs/rotations).
 const ROTATIONS: [u64; 25] = [
     0,
     1,
@@ -34,6 +39,7 @@ const ROTATIONS: [u64; 25] = [
     14,
 ];
 
+// What ι adds to lane (0, 0) in each round. One computed test holds the list to rc(t), Algorithm 5 (proofs/round_constants).
 const ROUND_CONSTANTS: [u64; 24] = [
     0x0000_0000_0000_0001,
     0x0000_0000_0000_8082,
@@ -61,6 +67,7 @@ const ROUND_CONSTANTS: [u64; 24] = [
     0x8000_0000_8000_8008,
 ];
 
+// x turned by n places. A turn by 0 asks for no shift by the whole width.
 fn rotate(x: u64, n: u64) -> u64
     requires { ⌜ n < 64 ⌝ }
     ensures { λ r. ⌜ r ≡ turned x n ⌝ }
@@ -80,6 +87,7 @@ fn round_constants() -> [u64; 24]
     ROUND_CONSTANTS
 }
 
+// θ: the parity of a column of lanes.
 fn column(a: &[u64; 25], x: usize) -> u64
     requires { ⌜ (x < 5) × (length (now a) ≡ 25) ⌝ }
     ensures { λ r. ⌜ r ≡ parity (lane (now (a .entry))) x ⌝ }
@@ -87,6 +95,7 @@ fn column(a: &[u64; 25], x: usize) -> u64
     a[x] ^ a[x + 5] ^ a[x + 10] ^ a[x + 15] ^ a[x + 20]
 }
 
+// θ: what each lane of a sheet gets from the two columns beside it.
 fn from_columns(a: &[u64; 25]) -> [u64; 5]
     requires { ⌜ length (now a) ≡ 25 ⌝ }
     ensures { λ r. ⌜ r ≡ effects (now (a .entry)) ⌝ }
@@ -105,6 +114,7 @@ fn from_columns(a: &[u64; 25]) -> [u64; 5]
     ]
 }
 
+// θ and ρ of one lane; π is where the planes below read it from.
 fn moved(a: &[u64; 25], d: [u64; 5], i: usize) -> u64
     requires { ⌜ (i < 25) × (length (now a) ≡ 25) ⌝ }
     ensures { λ r. ⌜ r ≡ Lanes·moved (lane (now (a .entry))) (lane d) i ⌝ }
@@ -113,6 +123,8 @@ fn moved(a: &[u64; 25], d: [u64; 5], i: usize) -> u64
     rotate(a[i] ^ d[i % 5], n[i])
 }
 
+// χ, a plane at a time, with the complements that the veil leaves. A plane has a function of its own: a round in one is more
+// than the prover takes.
 fn plane_0(a: &[u64; 25], d: [u64; 5], e: &mut [u64; 25])
     requires { ⌜ (length (now a) ≡ 25) × (length (now e) ≡ 25) ⌝ }
     ensures { λ r. ⌜ now (e .exit) ≡ sets (now (e .entry)) 0 (listed 5 0 (mixed (brought (lane (now (a .entry))) (lane d)))) ⌝ }
@@ -198,6 +210,7 @@ fn plane_4(a: &[u64; 25], d: [u64; 5], e: &mut [u64; 25])
     e[24] = b4 ^ (b0 & b1);
 }
 
+// One round from a to e. Two arrays by turns, so that no lane is copied.
 fn round(a: &[u64; 25], e: &mut [u64; 25], constant: u64)
     requires { ⌜ (length (now a) ≡ 25) × (length (now e) ≡ 25) ⌝ }
     ensures { λ r. ⌜ now (e .exit) ≡ roundOf constant (now (a .entry)) ⌝ }
@@ -211,6 +224,7 @@ fn round(a: &[u64; 25], e: &mut [u64; 25], constant: u64)
     e[0] = e[0] ^ constant;
 }
 
+// The six lanes complemented, or set right again.
 fn veil(a: [u64; 25]) -> [u64; 25]
     ensures { λ r. ⌜ r ≡ veiled a ⌝ }
 {
