@@ -1,4 +1,5 @@
 // Sets of numbers as words of bits, in a slice that the caller lends: n is a member where bit n % 64 of word n / 64 is one.
+#![tactic(auto)]
 
 ghost use Rattle.std.specs.Prelude.{◌≡◌, ◌+◌, ◌*◌, ◌-◌, ◌≤◌, ◌<◌, min, length};
 ghost use Rattle.bitset.specs.Sets.{is_one, member, in_both, in_either, with_member, without, joined, met, cleared};

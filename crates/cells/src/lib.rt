@@ -1,4 +1,6 @@
 // Total reads and writes of lent tables, tests over columns of cells, and tables of ids with their search.
+#![tactic(auto)]
+
 mod columns;
 mod ids;
 

@@ -1,4 +1,6 @@
 // The fixed-point rules: ratio and product, curvature from two counts, and the weight of an edge.
+#![tactic(auto)]
+
 mod throttle;
 pub mod unsigned;
 
@@ -10,7 +12,7 @@ ghost use Rattle.fixed.specs.Rules.{is_zero, kept, ratio_of, product_of, alpha_m
 pub use throttle::{alpha, fine_alpha};
 
 // A number in 65,536ths.
-#[derive(Drop)]
+#[derive(Clone, Copy)]
 pub struct FixedPoint(pub i32);
 
 // A figure, or the refusal of a curvature, or of counts, out of range.

@@ -1,4 +1,6 @@
 // Epochs, nullifiers, ids and the work test: which bytes are hashed, and in which order.
+#![tactic(auto)]
+
 mod bytes;
 
 ghost use Rattle.std.specs.Prelude.{◌≡◌};

@@ -2,6 +2,8 @@
 //
 // Six lanes are kept complemented between the rounds (`veil`), which spares most of the complements of χ: where a lane is
 // complemented, an `and` becomes an `or`. specs/Lanes has the rounds so, specs/Link that their bits are FIPS 202's.
+#![tactic(auto)]
+
 ghost use Rattle.std.specs.Prelude.{◌≡◌, ◌<◌, length};
 ghost use Rattle.std.proofs.lemmas.List.Edits.{sets};
 ghost use Rattle.keccak.specs.Fips202.{listed};

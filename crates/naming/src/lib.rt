@@ -1,4 +1,6 @@
 // Naming and room: where a call's ids are, and the new ones among them named in argument order.
+#![tactic(auto)]
+
 mod lookup;
 mod name;
 

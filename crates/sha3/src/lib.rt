@@ -1,4 +1,6 @@
 // sha3_256 of bytes: of a slice at once, or of parts that a hasher takes one after another.
+#![tactic(auto)]
+
 mod block;
 
 ghost use Rattle.std.specs.Prelude.{◌≡◌, List, [], ◌++◌, ℕ};

@@ -1,5 +1,7 @@
 // sha3_256 of the messages that tools/sha3-vectors lists, a line for each: the published examples, every length from 0 to 300, lengths
 // around each multiple of the rate, and messages in parts, split at every place.
+#![tactic(auto)]
+
 ghost use Rattle.std.specs.Prelude.{◌≡◌, ◌≤◌, length};
 
 use libc::STDOUT_FILENO;

@@ -4,6 +4,8 @@
 // Every function answers on every input: none has a `requires`. What each gives is one equation with a
 // definition on lists in specs/: Numeral (which strings are numbers, and which number), Pieces (a text
 // cut at a byte), Put (a text put into a buffer).
+#![tactic(auto)]
+
 mod number;
 mod place;
 mod put;

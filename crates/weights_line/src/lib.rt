@@ -1,6 +1,8 @@
 // One line of the program `weights`: which lines are taken, and what is answered.
 //
 // specs/Rules has both, in the words of the rules.
+#![tactic(auto)]
+
 mod figures;
 mod line;
 

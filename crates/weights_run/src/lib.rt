@@ -1,4 +1,6 @@
 // The program `weights` whole: standard input in lines, an answer a line on standard output.
+#![tactic(auto)]
+
 mod lines;
 mod stream;
 

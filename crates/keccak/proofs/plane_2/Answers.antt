@@ -1,0 +1,16 @@
+-- The five lanes are those that π brings to row 2, mixed along the row.
+use mathlib.Core.Path.{ap}
+use lib.ListN.{length-set}
+use lib.Seq.{sets}
+use Rattle.keccak.specs.Lanes.{lane, brought}
+use Rattle.keccak.proofs.Row.{row}
+use Rattle.keccak.proofs.plane_2.Goals as goal
+
+pub returns : goal.returns
+unfolding brought
+returns c =
+    let b = brought (lane c.args.a.now) (lane c.args.d) in
+    record {
+      e_after = ap (sets c.args.e.now 10) (row 2 b _ _ _ _ _ c.moved-b0.ensures c.moved-b1.ensures c.moved-b2.ensures c.moved-b3.ensures c.moved-b4.ensures);
+      e_len = simp length-set c.requires.1;
+    }
