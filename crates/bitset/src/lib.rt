@@ -166,8 +166,8 @@ pub fn next(set: &[u64], from: usize, end: usize) -> usize
 
 // The members below `below`, in ascending order, put into out from its start on, as many as it holds. Returns how many were put.
 pub fn list(set: &[u64], below: usize, out: &mut [u16]) -> usize
-    ensures value { result ≡ min (length (listed set.now below)) (length out.old) }
-    ensures out_after { out.new ≡ placed (listed set.now below) out.old }
+    ensures count { result ≡ min (length (listed set.now below)) (length out.old) }
+    ensures filled { out.new ≡ placed (listed set.now below) out.old }
 {
     let end = lesser(below, NUMBERS);
     let mut n = next(set, 0, end);

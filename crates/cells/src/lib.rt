@@ -10,7 +10,7 @@ pub use columns::{all_below16, all_below32, all_falling32};
 pub use ids::{as_id, find_id, get_id, put_id, same_id};
 
 // Where a search found what it looks for.
-#[derive(Drop)]
+#[derive(Clone, Copy)]
 pub enum Found {
     At(usize),
     Nothing,

@@ -1,6 +1,6 @@
 // What a call answers. A refusal is a case of DagRefusal; specs/Answers.antt gives document 01's number and values for each.
 
-#[derive(Drop)]
+#[derive(Clone, Copy)]
 pub enum DagRefusal {
     StoreBad,
     ListTooLong,
@@ -15,35 +15,35 @@ pub enum DagRefusal {
 }
 
 // A call that changes the store.
-#[derive(Drop)]
+#[derive(Clone, Copy)]
 pub enum Reply {
     Done,
     Refused(DagRefusal),
 }
 
 // What a check of a call finds before anything is changed.
-#[derive(Drop)]
+#[derive(Clone, Copy)]
 pub enum Verdict {
     Fine,
     Refuse(DagRefusal),
 }
 
 // How far a plain insert came with its parents: past all of them, or up to the first that is not held.
-#[derive(Drop)]
+#[derive(Clone, Copy)]
 pub enum Entered {
     Passed,
     Stopped(usize),
 }
 
 // A question of yes or no.
-#[derive(Drop)]
+#[derive(Clone, Copy)]
 pub enum Truth {
     Is(bool),
     Refused(DagRefusal),
 }
 
 // A number, or how many names a list was filled with.
-#[derive(Drop)]
+#[derive(Clone, Copy)]
 pub enum Count {
     Is(usize),
     Refused(DagRefusal),

@@ -18,7 +18,7 @@ pub const FEWEST_PARENTS: usize = 2;
 pub const MOST_PARENTS: usize = 8;
 
 // A verdict, and where the call's ids are if it is fine.
-#[derive(Drop)]
+#[derive(Clone, Copy)]
 pub struct Judged {
     pub verdict: Verdict,
     pub at: Located,

@@ -16,7 +16,7 @@ pub use throttle::{alpha, fine_alpha};
 pub struct FixedPoint(pub i32);
 
 // A figure, or the refusal of a curvature, or of counts, out of range.
-#[derive(Drop)]
+#[derive(Clone, Copy)]
 pub enum Figure {
     Is(FixedPoint),
     OutOfRange,

@@ -13,11 +13,11 @@ const KEY_LIMIT: usize = 4096;
 const PARENT_LIMIT: usize = 16;
 
 // An epoch, a kind of its own beside the depth that it comes from.
-#[derive(Drop)]
+#[derive(Clone, Copy)]
 pub struct Epoch(pub u64);
 
 // An epoch, or the refusal of a divisor that is 0.
-#[derive(Drop)]
+#[derive(Clone, Copy)]
 pub enum EpochAnswer {
     Is(Epoch),
     OutOfRange,
@@ -42,7 +42,7 @@ impl Epoch {
 }
 
 // A nullifier, a kind of its own beside ids.
-#[derive(Drop)]
+#[derive(Clone, Copy)]
 pub struct Nullifier(pub [u8; 32]);
 
 impl Nullifier {
@@ -60,14 +60,14 @@ impl Nullifier {
     }
 }
 
-#[derive(Drop)]
+#[derive(Clone, Copy)]
 pub enum Verdict {
     Fine,
     OutOfRange,
 }
 
 // The id, where the key is not refused; zeros where it is.
-#[derive(Drop)]
+#[derive(Clone, Copy)]
 pub struct ComputedId {
     pub verdict: Verdict,
     pub id: [u8; 32],
@@ -95,7 +95,7 @@ pub fn compute_id(key: &[u8], nullifier: Nullifier) -> ComputedId
 }
 
 // What the work test says, or why it is refused.
-#[derive(Drop)]
+#[derive(Clone, Copy)]
 pub enum WorkAnswer {
     Passes,
     Fails,

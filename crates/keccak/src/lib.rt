@@ -103,8 +103,8 @@ fn moved(a: &[u64; 25], d: [u64; 5], i: usize) -> u64
 // than the prover takes.
 fn plane_0(a: &[u64; 25], d: [u64; 5], e: &mut [u64; 25])
     requires { (length a.now ≡ 25) × (length e.old ≡ 25) }
-    ensures e_after { e.new ≡ sets e.old 0 (listed 5 0 (mixed (brought (lane a.now) (lane d)))) }
-    ensures e_len { length e.new ≡ 25 }
+    ensures lanes { e.new ≡ sets e.old 0 (listed 5 0 (mixed (brought (lane a.now) (lane d)))) }
+    ensures long { length e.new ≡ 25 }
 {
     let b0 = moved(a, d, 0);
     let b1 = moved(a, d, 6);
@@ -120,8 +120,8 @@ fn plane_0(a: &[u64; 25], d: [u64; 5], e: &mut [u64; 25])
 
 fn plane_1(a: &[u64; 25], d: [u64; 5], e: &mut [u64; 25])
     requires { (length a.now ≡ 25) × (length e.old ≡ 25) }
-    ensures e_after { e.new ≡ sets e.old 5 (listed 5 5 (mixed (brought (lane a.now) (lane d)))) }
-    ensures e_len { length e.new ≡ 25 }
+    ensures lanes { e.new ≡ sets e.old 5 (listed 5 5 (mixed (brought (lane a.now) (lane d)))) }
+    ensures long { length e.new ≡ 25 }
 {
     let b0 = moved(a, d, 3);
     let b1 = moved(a, d, 9);
@@ -137,8 +137,8 @@ fn plane_1(a: &[u64; 25], d: [u64; 5], e: &mut [u64; 25])
 
 fn plane_2(a: &[u64; 25], d: [u64; 5], e: &mut [u64; 25])
     requires { (length a.now ≡ 25) × (length e.old ≡ 25) }
-    ensures e_after { e.new ≡ sets e.old 10 (listed 5 10 (mixed (brought (lane a.now) (lane d)))) }
-    ensures e_len { length e.new ≡ 25 }
+    ensures lanes { e.new ≡ sets e.old 10 (listed 5 10 (mixed (brought (lane a.now) (lane d)))) }
+    ensures long { length e.new ≡ 25 }
 {
     let b0 = moved(a, d, 1);
     let b1 = moved(a, d, 7);
@@ -154,8 +154,8 @@ fn plane_2(a: &[u64; 25], d: [u64; 5], e: &mut [u64; 25])
 
 fn plane_3(a: &[u64; 25], d: [u64; 5], e: &mut [u64; 25])
     requires { (length a.now ≡ 25) × (length e.old ≡ 25) }
-    ensures e_after { e.new ≡ sets e.old 15 (listed 5 15 (mixed (brought (lane a.now) (lane d)))) }
-    ensures e_len { length e.new ≡ 25 }
+    ensures lanes { e.new ≡ sets e.old 15 (listed 5 15 (mixed (brought (lane a.now) (lane d)))) }
+    ensures long { length e.new ≡ 25 }
 {
     let b0 = moved(a, d, 4);
     let b1 = moved(a, d, 5);
@@ -171,8 +171,8 @@ fn plane_3(a: &[u64; 25], d: [u64; 5], e: &mut [u64; 25])
 
 fn plane_4(a: &[u64; 25], d: [u64; 5], e: &mut [u64; 25])
     requires { (length a.now ≡ 25) × (length e.old ≡ 25) }
-    ensures e_after { e.new ≡ sets e.old 20 (listed 5 20 (mixed (brought (lane a.now) (lane d)))) }
-    ensures e_len { length e.new ≡ 25 }
+    ensures lanes { e.new ≡ sets e.old 20 (listed 5 20 (mixed (brought (lane a.now) (lane d)))) }
+    ensures long { length e.new ≡ 25 }
 {
     let b0 = moved(a, d, 2);
     let b1 = moved(a, d, 8);

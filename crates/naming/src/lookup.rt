@@ -14,7 +14,7 @@ pub const CALL_LIMIT: usize = PARENT_LIMIT + 1;
 
 // The number of each of a call's ids once all are named, which of them are new, and how many those are. Place 0 is the
 // call's first id, place 1 + i the i-th of its list.
-#[derive(Drop)]
+#[derive(Clone, Copy)]
 pub struct Located {
     pub numbers: [u16; CALL_LIMIT],
     pub new: [bool; CALL_LIMIT],
@@ -22,7 +22,7 @@ pub struct Located {
 }
 
 // The same of one id.
-#[derive(Drop)]
+#[derive(Clone, Copy)]
 struct Spot {
     number: u16,
     new: bool,

@@ -11,7 +11,7 @@ ghost use Rattle.sha3.specs.Hash.{taken, after, digest, sha3};
 const RATE: usize = 136;
 
 // A hash under way: the state with `at` bytes of the present block added. Every value is a hasher: `at` counts modulo the rate.
-#[derive(Drop)]
+#[derive(Clone, Copy)]
 pub struct Hasher {
     pub lanes: [u64; 25],
     pub at: usize,
@@ -30,7 +30,7 @@ impl Hasher {
     // The one call of the permutation is here, so that it is compiled into the loop; `finish` comes here too.
     pub fn update(self, part: &[u8]) -> Hasher
         ensures value { result ≡ taken self part.now }
-        ensures by_index { (m : List ℕ) → self ≡ after m → result ≡ after (m ++ part.now) }
+        ensures of_message { (m : List ℕ) → self ≡ after m → result ≡ after (m ++ part.now) }
     {
         let mut lanes = self.lanes;
         let mut at = self.at % RATE;
@@ -53,8 +53,8 @@ impl Hasher {
     // The suffix 01 and the padding fill the block.
     pub fn finish(self) -> [u8; 32]
         ensures value { result ≡ digest self }
-        ensures by_index { (m : List ℕ) → self ≡ after m → result ≡ sha3 m }
-        ensures by_index_2 { (m : List ℕ) → self ≡ after m → bits_of result ≡ sha3_256 (bits_of m) }
+        ensures of_message { (m : List ℕ) → self ≡ after m → result ≡ sha3 m }
+        ensures of_bits { (m : List ℕ) → self ≡ after m → bits_of result ≡ sha3_256 (bits_of m) }
     {
         let at = self.at % RATE;
         let mut padding = [0u8; 136];
@@ -68,7 +68,7 @@ impl Hasher {
 
 pub fn sha3_256(message: &[u8]) -> [u8; 32]
     ensures value { result ≡ sha3 message.now }
-    ensures result_value { bits_of result ≡ sha3_256 (bits_of message.now) }
+    ensures of_bits { bits_of result ≡ sha3_256 (bits_of message.now) }
 {
     Hasher::new().update(message).finish()
 }

@@ -8,7 +8,7 @@ ghost use Rattle.store.specs.Sound.{Within, lengths_right, head_right, nodes_col
 use crate::limits::*;
 
 // How far each table is in use.
-#[derive(Drop)]
+#[derive(Clone, Copy)]
 pub struct Counts {
     pub names: usize,
     pub entries: usize,

@@ -4,7 +4,7 @@ ghost use Rattle.text.specs.Numeral.{number_of};
 ghost use Rattle.text.specs.Reading.{with_digit};
 
 // What a string of bytes reads as.
-#[derive(Drop)]
+#[derive(Clone, Copy)]
 pub enum Number {
     Value(u64),
     Bad,

@@ -5,7 +5,7 @@ ghost use Rattle.weights_line.specs.Rules.{answer_of, figures_of};
 use crate::Line;
 use fixed::{Figure, FixedPoint};
 
-#[derive(Drop)]
+#[derive(Clone, Copy)]
 pub enum Answer {
     Figures {
         curvature: i32,

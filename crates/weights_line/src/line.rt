@@ -4,7 +4,7 @@ ghost use Rattle.weights_line.specs.Rules.{line_of, counts_of};
 
 use text::Number;
 
-#[derive(Drop)]
+#[derive(Clone, Copy)]
 pub enum Line {
     Counts {
         shared: u32,

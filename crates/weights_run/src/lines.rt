@@ -15,14 +15,14 @@ const ROOM_EACH: usize = 16;
 const MOST_KEPT: usize = 81;
 
 // How many bytes of a part are used up, and how many of the output are written.
-#[derive(Drop)]
+#[derive(Clone, Copy)]
 pub(crate) struct Answered {
     pub used: usize,
     pub written: usize,
 }
 
 // How many bytes of the input stay, at its front, and how many of the output are written.
-#[derive(Drop)]
+#[derive(Clone, Copy)]
 pub(crate) struct Step {
     pub kept: usize,
     pub written: usize,

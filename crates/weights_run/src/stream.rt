@@ -9,7 +9,7 @@ use crate::lines;
 use libc::{STDIN_FILENO, STDOUT_FILENO};
 
 // What one read came to: so many bytes of an unfinished line are kept; the input ended; or something failed.
-#[derive(Drop)]
+#[derive(Clone, Copy)]
 enum Turn {
     More(usize),
     End,

@@ -10,7 +10,7 @@ returns-then-put-out c =
     let loop = c.loop-n in
     let lesser = c.lesser-end in
     let all = listing_full _ _ _ _ _ _ loop.invariant.1 _ lesser.ensures c.if-put-out.true in
-    record { value = all.0; out_after = all.1 }
+    record { count = all.0; filled = all.1 }
 
 pub loop-n-smaller : goal.loop-n-smaller
 loop-n-smaller c =
@@ -27,4 +27,4 @@ returns c =
     let loop = c.loop-n in
     let lesser = c.lesser-end in
     let all = listing_end _ _ _ _ _ _ loop.invariant.1 _ lesser.ensures c.loop-n-test.false in
-    record { value = all.0; out_after = all.1 }
+    record { count = all.0; filled = all.1 }

@@ -11,6 +11,6 @@ unfolding brought
 returns c =
     let b = brought (lane c.args.a.now) (lane c.args.d) in
     record {
-      e_after = ap (sets c.args.e.now 10) (row 2 b _ _ _ _ _ c.moved-b0.ensures c.moved-b1.ensures c.moved-b2.ensures c.moved-b3.ensures c.moved-b4.ensures);
-      e_len = simp length-set c.requires.1;
+      lanes = ap (sets c.args.e.now 10) (row 2 b _ _ _ _ _ c.moved-b0.ensures c.moved-b1.ensures c.moved-b2.ensures c.moved-b3.ensures c.moved-b4.ensures);
+      long = simp length-set c.requires.1;
     }

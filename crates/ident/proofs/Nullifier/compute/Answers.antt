@@ -1,0 +1,16 @@
+-- `Nullifier::compute`: the four parts hashed one after another are the concatenation that `nullifier_of` hashes.
+use mathlib.Core.Path.{◌∙◌}
+use Rattle.ident.specs.Parts.{nullifier_parts}
+use Rattle.ident.proofs.Nullifier.compute.Goals as goal
+
+pub returns : goal.returns
+returns c =
+    let finish = c.finish-hash in
+    let update4 = c.update-4 in
+    let update3 = c.update-3 in
+    let update2 = c.update-2 in
+    let update = c.update in
+    let new = c.new in
+    let to-bytes = c.to_bytes-when in
+    finish.ensures.1.0 _ (update4.ensures.1 _ (update3.ensures.1 _ (update2.ensures.1 _ (update.ensures.1 _ new.ensures))))
+    ∙ nullifier_parts _ _ _ _ to-bytes.ensures

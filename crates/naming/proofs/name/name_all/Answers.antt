@@ -1,0 +1,27 @@
+-- `naming::name::name_all` meets its contract. Listing the new ids and clearing as many rows is naming (`located_named`).
+use native.Mathlib.Omega.{arith}
+use Rattle.naming.specs.Loops.{located_count, located_named}
+use Rattle.naming.proofs.name.name_all.Goals as goal
+
+pub list_all-requires : goal.list_all-requires
+list_all-requires c =
+    let pre = c.requires in
+    let count = located_count _ _ _ _ pre.1.1.0 in
+    (pre.0, (pre.1.0, omega (arith, count, pre.1.1.1)))
+
+pub clear_rows-requires : goal.clear_rows-requires
+clear_rows-requires c =
+    let at32 = c.at32-first in
+    let pre = c.requires in
+    omega (arith, at32.ensures, pre.1.1.1)
+
+pub returns : goal.returns
+returns c =
+    let pre = c.requires in
+    let at32 = c.at32-first in
+    let list_all = c.list_all in
+    let args = c.args in
+    let clear-rows = c.clear_rows in
+    located_named _ _ _ _ pre.1.1.0 _ _ _ (omega (arith, pre.0.head_long)) at32.ensures
+    (list_all.ensures args.nodes.now args.links.now args.nonces.now args.tips.now)
+    (clear-rows.ensures list_all.new.0 list_all.new.1.0 list_all.new.1.1.0)
