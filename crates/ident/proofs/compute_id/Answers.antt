@@ -13,4 +13,4 @@ returns c =
     let update2 = c.update-2 in
     let update = c.update in
     let new = c.new in
-    id_served _ _ _ if1.false (finish.ensures.1.0 _ (update3.ensures.1 _ (update2.ensures.1 _ (update.ensures.1 _ new.ensures))))
+    id_served _ _ _ if1.false (finish.ensures.of_message _ (update3.ensures.of_message _ (update2.ensures.of_message _ (update.ensures.of_message _ new.ensures))))

@@ -13,7 +13,7 @@ loop-i-init c =
     let update = c.update-hasher in
     let new = c.new in
     let args = c.args in
-    (omega arith, update.ensures.1 _ new.ensures ∙ ap after (joined_none args.key.now))
+    (omega arith, update.ensures.of_message _ new.ensures ∙ ap after (joined_none args.key.now))
 
 pub loop-i-preserved : goal.loop-i-preserved
 loop-i-preserved c =
@@ -26,7 +26,7 @@ loop-i-preserved c =
     let ps = args.parents.now in
     let key = args.key.now in (
       omega arith,
-      update2.ensures.1 _ the-loop.invariant.1
+      update2.ensures.of_message _ the-loop.invariant.1
           ∙ ap after
           (append_assoc key (joined (take i ps)) _
           ∙ ap (λ (m : List ℕ). key ++ (joined (take i ps) ++ m)) whole.ensures.0
@@ -42,5 +42,5 @@ returns c =
     let args = c.args in
     let loop-test = c.loop-i-test in
     let little_endian = c.little_endian-last in
-    finish.ensures.1.0 _ (update4.ensures.1 _ (update3.ensures.1 _ the-loop.invariant.1))
+    finish.ensures.of_message _ (update4.ensures.of_message _ (update3.ensures.of_message _ the-loop.invariant.1))
     ∙ work_parts _ _ _ args.parents.now _ the-loop.i the-loop.invariant.0 loop-test.false little_endian.ensures

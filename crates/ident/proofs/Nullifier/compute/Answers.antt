@@ -12,5 +12,5 @@ returns c =
     let update = c.update in
     let new = c.new in
     let to-bytes = c.to_bytes-when in
-    finish.ensures.1.0 _ (update4.ensures.1 _ (update3.ensures.1 _ (update2.ensures.1 _ (update.ensures.1 _ new.ensures))))
+    finish.ensures.of_message _ (update4.ensures.of_message _ (update3.ensures.of_message _ (update2.ensures.of_message _ (update.ensures.of_message _ new.ensures))))
     ∙ nullifier_parts _ _ _ _ to-bytes.ensures

@@ -7,8 +7,8 @@ use Rattle.cells.specs.Cells.{Id, same_id, first_where}
 use Rattle.naming.specs.Naming.{called}
 use Rattle.naming.proofs.lookup.earlier.Given as goal
 
-pub -- whether place j of the call has the i-th id of its list
-abbrev alike : Id → List Id → ℕ → ℕ → Bool
+-- whether place j of the call has the i-th id of its list
+abbrev pub alike : Id → List Id → ℕ → ℕ → Bool
 alike id others i j = same_id (called id others j) (called id others (suc i))
 
 abbrev pub invariant-loop-j : goal.invariant-loop-j

@@ -9,7 +9,7 @@ use Rattle.naming.proofs.lookup.locate.Given as goal
 
 abbrev pub invariant-loop-i : goal.invariant-loop-i
 invariant-loop-i l =
-    (l.i ≤ length l.others) × Whole l.at × ((n l o p : List ℕ) → Locates (store l.head l.keys l.rests n l o p) (called l.id l.others) (suc l.i) l.at)
+    (l.i ≤ length l.others) × Whole l.at × ((n ls o p : List ℕ) → Locates (store l.head l.keys l.rests n ls o p) (called l.id l.others) (suc l.i) l.at)
 
 abbrev pub decreases-loop-i : goal.decreases-loop-i
 decreases-loop-i l = length l.others - l.i

@@ -8,40 +8,32 @@ use Rattle.naming.proofs.lookup.locate_one.Goals as goal
 pub offset_bounds-numbers-j : goal.offset_bounds-numbers-j
 offset_bounds-numbers-j c =
     let pre = c.requires in
-    let place = c.place-1 in
-    let h = pre.1 _ place.given.1 in omega arith
+    let h = pre.1 _ c.in-At.is in omega arith
 
 pub bounds-numbers-j : goal.bounds-numbers-j
 bounds-numbers-j c =
     let pre = c.requires in
-    let place = c.place-1 in
-    pre.1 _ place.given.1
+    pre.1 _ c.in-At.is
 
 pub overflow_cast-result : goal.overflow_cast-result
 overflow_cast-result c =
     let find-id = c.find_id in
-    let n = c.n-1 in
     let pre = c.requires in
-    let h = (first_found _ _ _ _ (sym find-id.ensures ∙ n.given.1)).below in omega (arith, pre.0.1)
+    let h = (first_found _ _ _ _ (sym find-id.ensures ∙ c.in-At-find_id.is)).below in omega (arith, pre.0.1)
 
 pub returns-in-At : goal.returns-in-At
 unfolding spot_of
 returns-in-At c =
-    let place = c.place-1 in
-    rw place.given.1
+    rw c.in-At.is
 
 pub returns-in-At-find_id : goal.returns-in-At-find_id
 unfolding spot_of
 returns-in-At-find_id c =
-    let enum_told = c.enum_told-1 in
     let find-id = c.find_id in
-    let n = c.n-1 in
-    rw (enum_told.given.1, ← find-id.ensures, n.given.1)
+    rw (c.in-Nothing.is, ← find-id.ensures, c.in-At-find_id.is)
 
 pub returns-in-Nothing-find_id : goal.returns-in-Nothing-find_id
 unfolding spot_of
 returns-in-Nothing-find_id c =
-    let enum_told = c.enum_told-1 in
     let find-id = c.find_id in
-    let enum-told2 = c.enum_told-in-Nothing-find_id-1 in
-    rw (enum_told.given.1, ← find-id.ensures, enum-told2.given.1)
+    rw (c.in-Nothing.is, ← find-id.ensures, c.in-Nothing-find_id.is)

@@ -21,7 +21,7 @@ shape_of-nodes c =
     let put163 = c.put16-3 in
     let put162 = c.put16-2 in
     let the-loop = c.loop-j in
-    put164.auto.0 ∙ put163.auto.0 ∙ put162.auto.0 ∙ ap length the-loop.invariant.1 ∙ put_length _ _ _ _
+    put164.auto.s ∙ put163.auto.s ∙ put162.auto.s ∙ ap length the-loop.invariant.1 ∙ put_length _ _ _ _
 
 pub returns : goal.returns
 unfolding fresh_node

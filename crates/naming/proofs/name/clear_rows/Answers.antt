@@ -14,10 +14,10 @@ loop-i-preserved c =
     let clear-row = c.clear_row in (
       omega arith,
       λ (h k r : List ℕ). cleared_step _ _ _ _ _ (the-loop.invariant.1 h k r) (clear-row.ensures h k r),
-      clear-row.auto.0 ∙ the-loop.invariant.2,
-      clear-row.auto.1.0 ∙ the-loop.invariant.3,
-      clear-row.auto.1.1.0 ∙ the-loop.invariant.4,
-      clear-row.auto.1.1.1.0 ∙ the-loop.invariant.5,
+      clear-row.auto.nodes ∙ the-loop.invariant.2,
+      clear-row.auto.links ∙ the-loop.invariant.3,
+      clear-row.auto.nonces ∙ the-loop.invariant.4,
+      clear-row.auto.tips ∙ the-loop.invariant.5,
     )
 
 pub shape_of-nodes : goal.shape_of-nodes

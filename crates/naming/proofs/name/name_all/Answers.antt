@@ -24,4 +24,4 @@ returns c =
     let clear-rows = c.clear_rows in
     located_named _ _ _ _ pre.1.1.0 _ _ _ (omega (arith, pre.0.head_long)) at32.ensures
     (list_all.ensures args.nodes.now args.links.now args.nonces.now args.tips.now)
-    (clear-rows.ensures list_all.new.0 list_all.new.1.0 list_all.new.1.1.0)
+    (clear-rows.ensures list_all.new.head list_all.new.keys list_all.new.rests)
