@@ -1,0 +1,14 @@
+-- By cases of what the search found.
+use mathlib.Core.Path.{sym, ap, ◌∙◌}
+use Rattle.dag.specs.Rules.{places_wanted}
+use Rattle.dag.proofs.judge.places_wanted.Goals as goal
+
+pub returns-in-At : goal.returns-in-At
+returns-in-At c =
+    let place_of = c.place_of in
+    λ n l o p. ap places_wanted (sym c.in-At.is ∙ place_of.ensures n l o p)
+
+pub returns-in-Nothing : goal.returns-in-Nothing
+returns-in-Nothing c =
+    let place_of = c.place_of in
+    λ n l o p. ap places_wanted (sym c.in-Nothing.is ∙ place_of.ensures n l o p)
