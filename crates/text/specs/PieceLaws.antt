@@ -5,20 +5,18 @@ use Rattle.std.proofs.Math.Path.{refl}
 use Rattle.std.proofs.Common.{ap, ◌∙◌, not-suc-le-zero, le_of_suc-le-suc, le_refl, length-drop, take_all, eqb-true}
 use Rattle.std.proofs.Math.Bool.{and-false}
 use mathlib.Core.List.{List, [], ◌∷◌}
-use Rattle.bytes.specs.Bytes.{index_of, index_after}
+use Rattle.std.proofs.Common.{one-add}
 use Rattle.text.specs.Cases.{either}
 use Rattle.text.specs.declared.number.Number.TheVariants.{Bad}
 use Rattle.text.specs.Numeral.{is_digit, all_digits, is_numeral, number_of, most_digits}
 use Rattle.text.specs.Pieces.{newline, place_of, onto_first, pieces, all_but_last, finished}
 
 -- the place of a byte in a list, by whether the first is it
-pub index_hit : (b x : ℕ) (s : List ℕ) → eqb x b ≡ true → index_of b (x ∷ s) ≡ 0
-unfolding index_of index_after
+pub index_hit : (b x : ℕ) (s : List ℕ) → eqb x b ≡ true → place_of b (x ∷ s) ≡ 0
 index_hit b x s e = rw e
 
-pub index_miss : (b x : ℕ) (s : List ℕ) → eqb x b ≡ false → index_of b (x ∷ s) ≡ suc (index_of b s)
-unfolding index_of index_after
-index_miss b x s e = rw e
+pub index_miss : (b x : ℕ) (s : List ℕ) → eqb x b ≡ false → place_of b (x ∷ s) ≡ suc (place_of b s)
+index_miss b x s e = rw e (one-add (place_of b s))
 
 -- a fact about a byte, from what holds where it is sep and where it is not
 pub by_test : {A : Type 0} (x sep : ℕ) → (eqb x sep ≡ true → A) → (eqb x sep ≡ false → A) → A
@@ -30,7 +28,6 @@ by_test x sep hit miss = cases (eqb x sep) hit miss refl
 
 module _ (sep : ℕ) where
   pub index_most : (s : List ℕ) → place_of sep s ≤ length s
-  unfolding index_of
   index_most [] = zero-le
   index_most (x ∷ s) =
       by_test x sep (λ e. rw (index_hit sep x s e) zero-le) (λ e. rw (index_miss sep x s e) (suc-le-suc (index_most s)))

@@ -1,11 +1,11 @@
 -- A text cut into pieces: a line into words, an input into lines. Assumes nothing.
 use Rattle.std.specs.Prelude.{ℕ, cond, List, [], ◌∷◌, eqb}
 use Prim.Native.Char.{code}
-use Rattle.bytes.specs.Bytes.{index_of}
+use Rattle.std.specs.List.{position_or_len}
 
 -- the place of a text's first byte that is b, or the text's length where none is
 abbrev pub place_of : ℕ → List ℕ → ℕ
-place_of b s = index_of b s
+place_of b s = position_or_len (λ (x : ℕ). eqb x b) s
 
 -- the pieces of a text whose first byte is b, given those of the rest
 unfoldable pub onto_first : ℕ → List (List ℕ) → List (List ℕ)

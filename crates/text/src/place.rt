@@ -7,7 +7,12 @@ ghost use Rattle.text.specs.Put.{page, kept_of};
 pub fn place_of(s: &[u8], b: u8) -> usize
     ensures { result ≡ place_of b s.now }
 {
-    bytes::scan::find(s, 0, s.len(), b)
+    for (i, x) in s.iter().enumerate() {
+        if *x == b {
+            return i;
+        }
+    }
+    s.len()
 }
 
 // Moves the bytes from `from` up to `to` to the front of buf, at most `most` of them, and gives their

@@ -26,8 +26,9 @@ pub fn put_bytes(out: &mut [u8], at: usize, s: &[u8]) -> usize
     if out.len() - at < s.len() {
         return at;
     }
-    bytes::copy(s, &mut out[at..]);
-    at + s.len()
+    let end = at + s.len();
+    out[at..end].copy_from_slice(s);
+    end
 }
 
 // A number in decimal, with no zero in front.

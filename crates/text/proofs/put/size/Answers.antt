@@ -1,5 +1,4 @@
 -- `text::put::size` meets its contract: a signed number's bits read back as the number, and 64 bits hold what 32 bits hold, negated too.
--- Assumes nothing.
 use Prim.Native.Nat.{ℕ, suc}
 use mathlib.Core.Path.{◌≡◌, sym, ap, subst, ◌∙◌}
 use mathlib.Core.Bool.{true, false, false≢true}
@@ -12,8 +11,7 @@ use lib.Signed.{non_neg, le_z}
 use mir.Syntax.{w32, w64}
 use mir.Val.{Fits, SFits, to_z, of_z}
 use mir.ValLaws.{to_z-of_z}
-use Rattle.text.proofs.put.size.Statement.{statement}
-use Rattle.text.proofs.put.size.Tie as tie
+use Rattle.text.proofs.put.size.Goals as goal
 
 wide : (z : ℤ) → SFits w32 z → SFits w64 z
 wide z f = record { sfits = omega (arith, f.sfits) }
@@ -50,41 +48,37 @@ size_minus (negsuc n) e = zero-add (suc n)
 minus_64 : (z : ℤ) → SFits w32 z → Below z → to_z w64 (of_z w64 (pos 0 -ℤ to_z w64 (of_z w64 (to_z w32 (of_z w32 z))))) ≡ pos 0 -ℤ z
 minus_64 z f e = ap (λ (y : ℤ). to_z w64 (of_z w64 (pos 0 -ℤ y))) (z_64 z f) ∙ to_z-of_z w64 (pos 0 -ℤ z) (negated z f e)
 
-below : (c : tie.Else1) → Below c.before.args.z
+below : (z : ℤ) → SFits w32 z → le_z (pos 0) (to_z w32 (of_z w32 z)) ≡ false → Below z
 unfolding Below
-below c = ap (λ (y : ℤ). le_z (pos 0) y) (sym (to_z-of_z w32 c.before.args.z c.before.ranges.z)) ∙ c.if1.false
+below z f e = ap (λ (y : ℤ). le_z (pos 0) y) (sym (to_z-of_z w32 z f)) ∙ e
 
-cast-result : tie.Need-overflow-cast-result
-cast-result c =
-    let z = c.before.args.z in
-    let f = c.before.ranges.z in
+pub overflow_cast-result : goal.overflow_cast-result
+overflow_cast-result c =
+    let z = c.args.z in
+    let f = c.ranges.z in
     let back = to_z-of_z w32 z f in
-    subst (λ (y : ℤ). T (non_neg y) × Fits w64 (nat_abs y)) (sym back) (cast_up z f (ap (λ (y : ℤ). le_z (pos 0) y) (sym back) ∙ c.if1.true))
+    subst (λ (y : ℤ). T (non_neg y) × Fits w64 (nat_abs y)) (sym back) (cast_up z f (ap (λ (y : ℤ). le_z (pos 0) y) (sym back) ∙ c.if-z-ge0.true))
 
-cast-result-2 : tie.Need-overflow-cast-result-2
-cast-result-2 c =
-    let z = c.before.args.z in
-    subst (λ (y : ℤ). SFits w64 y) (sym (to_z-of_z w32 z c.before.ranges.z)) (wide z c.before.ranges.z)
+pub overflow_cast-result-else-z-ge0 : goal.overflow_cast-result-else-z-ge0
+overflow_cast-result-else-z-ge0 c =
+    let z = c.args.z in
+    subst (λ (y : ℤ). SFits w64 y) (sym (to_z-of_z w32 z c.ranges.z)) (wide z c.ranges.z)
 
-sub-result : tie.Need-overflow-sub-result
-sub-result c =
-    let z = c.before.args.z in
-    subst (λ (y : ℤ). SFits w64 (pos 0 -ℤ y)) (sym (z_64 z c.before.ranges.z)) (negated z c.before.ranges.z (below c))
+pub overflow_sub-result : goal.overflow_sub-result
+overflow_sub-result c =
+    let z = c.args.z in
+    subst (λ (y : ℤ). SFits w64 (pos 0 -ℤ y)) (sym (z_64 z c.ranges.z)) (negated z c.ranges.z (below c.args.z c.ranges.z c.if-z-ge0.false))
 
-cast-result-3 : tie.Need-overflow-cast-result-3
-cast-result-3 c =
-    let z = c.before.args.z in
-    let f = c.before.ranges.z in
-    subst (λ (y : ℤ). T (non_neg y) × Fits w64 (nat_abs y)) (sym (minus_64 z f (below c))) (cast_down z f (below c))
+pub overflow_cast-result-else-z-ge0-2 : goal.overflow_cast-result-else-z-ge0-2
+overflow_cast-result-else-z-ge0-2 c =
+    let z = c.args.z in
+    let f = c.ranges.z in
+    subst (λ (y : ℤ). T (non_neg y) × Fits w64 (nat_abs y)) (sym (minus_64 z f (below c.args.z c.ranges.z c.if-z-ge0.false))) (cast_down z f (below c.args.z c.ranges.z c.if-z-ge0.false))
 
-returns : tie.Need-returns
-returns c = ap nat_abs (to_z-of_z w32 c.before.args.z c.before.ranges.z)
+pub returns-then-z-ge0 : goal.returns-then-z-ge0
+returns-then-z-ge0 c = ap nat_abs (to_z-of_z w32 c.args.z c.ranges.z)
 
-returns-2 : tie.Need-returns-2
-returns-2 c =
-    let z = c.before.args.z in
-    ap nat_abs (minus_64 z c.before.ranges.z (below c)) ∙ size_minus z (below c)
-
-pub size-spec : {M : Type 1} → statement M
-size-spec =
-    tie.close (tie.spec cast-result cast-result-2 sub-result cast-result-3 returns returns-2)
+pub returns-else-z-ge0 : goal.returns-else-z-ge0
+returns-else-z-ge0 c =
+    let z = c.args.z in
+    ap nat_abs (minus_64 z c.ranges.z (below c.args.z c.ranges.z c.if-z-ge0.false)) ∙ size_minus z (below c.args.z c.ranges.z c.if-z-ge0.false)
