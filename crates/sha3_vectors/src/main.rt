@@ -4,25 +4,19 @@
 
 ghost use Rattle.std.specs.Prelude.{◌≡◌, ◌≤◌, length};
 
-use libc::STDOUT_FILENO;
 use sha3::Hasher;
+use std::io::{self, BufWriter, Write};
 
-fn wide(byte: u8) -> u64 {
-    byte as u64
-}
-
-fn show(hash: [u8; 32]) {
-    let mut i = 0;
-    while i < 32 {
-        io::print_hex(STDOUT_FILENO, wide(hash[i]), 2);
-        i += 1;
+fn show<W: Write>(out: &mut W, hash: [u8; 32]) -> io::Result<()> {
+    for byte in hash {
+        write!(out, "{byte:02x}")?;
     }
-    io::write_all(STDOUT_FILENO, b"\n");
+    writeln!(out, "")
 }
 
-fn example(name: &[u8], message: &[u8]) {
-    io::write_all(STDOUT_FILENO, name);
-    show(sha3::sha3_256(message));
+fn example<W: Write>(out: &mut W, name: &str, message: &[u8]) -> io::Result<()> {
+    write!(out, "{name}")?;
+    show(out, sha3::sha3_256(message))
 }
 
 // The message of n bytes: x is n mod 251, each byte is x, and after byte i x becomes (29 x + i + 7) mod 251. (The array goes on past n.)
@@ -40,42 +34,37 @@ fn message(n: usize) -> [u8; 2048]
     bytes
 }
 
-fn whole(n: usize)
+fn whole<W: Write>(out: &mut W, n: usize) -> io::Result<()>
     requires { n ≤ 2048 }
 {
-    io::write_all(STDOUT_FILENO, b"length ");
-    io::print_decimal(STDOUT_FILENO, n as u64);
-    io::write_all(STDOUT_FILENO, b" ");
+    write!(out, "length {n} ")?;
     let bytes = message(n);
-    show(sha3::sha3_256(&bytes[0..n]));
+    show(out, sha3::sha3_256(&bytes[0..n]))
 }
 
 // The first `cut` bytes, nothing, and the others.
-fn in_parts(n: usize, cut: usize)
+fn in_parts<W: Write>(out: &mut W, n: usize, cut: usize) -> io::Result<()>
     requires { (cut ≤ n) × (n ≤ 2048) }
 {
-    io::write_all(STDOUT_FILENO, b"split ");
-    io::print_decimal(STDOUT_FILENO, n as u64);
-    io::write_all(STDOUT_FILENO, b" ");
-    io::print_decimal(STDOUT_FILENO, cut as u64);
-    io::write_all(STDOUT_FILENO, b" ");
+    write!(out, "split {n} {cut} ")?;
     let bytes = message(n);
     let first = Hasher::new().update(&bytes[0..cut]).update(b"");
-    show(first.update(&bytes[cut..n]).finish());
+    show(out, first.update(&bytes[cut..n]).finish())
 }
 
-fn split_everywhere(n: usize)
+fn split_everywhere<W: Write>(out: &mut W, n: usize) -> io::Result<()>
     requires { n ≤ 2048 }
 {
     let mut cut = 0;
     while cut <= n {
-        in_parts(n, cut);
+        in_parts(out, n, cut)?;
         cut += 1;
     }
+    Ok(())
 }
 
 // A million times the letter a, in parts of 625 bytes.
-fn million() {
+fn million<W: Write>(out: &mut W) -> io::Result<()> {
     let part = [b'a'; 625];
     let mut hasher = Hasher::new();
     let mut i: usize = 0;
@@ -84,45 +73,52 @@ fn million() {
         hasher = next;
         i += 1;
     }
-    io::write_all(STDOUT_FILENO, b"million ");
-    show(hasher.finish());
+    write!(out, "million ")?;
+    show(out, hasher.finish())
 }
 
-fn lengths(first: usize, last: usize)
+fn lengths<W: Write>(out: &mut W, first: usize, last: usize) -> io::Result<()>
     requires { (first ≤ last) × (last ≤ 2048) }
 {
     let mut n = first;
     while n <= last {
-        whole(n);
+        whole(out, n)?;
         n += 1;
     }
+    Ok(())
 }
 
-fn around_blocks() {
+fn around_blocks<W: Write>(out: &mut W) -> io::Result<()> {
     let mut blocks = 3;
     while blocks <= 15 {
-        lengths(136 * blocks - 2, 136 * blocks + 2);
+        lengths(out, 136 * blocks - 2, 136 * blocks + 2)?;
         blocks += 1;
     }
+    Ok(())
 }
 
-fn main() {
-    example(b"empty ", b"");
-    example(b"abc ", b"abc");
+fn main(rt: HostRuntime) -> io::Result<()> {
+    let mut out = BufWriter::new(rt.alloc(), rt.stdout())?;
+    let out = &mut out;
+    example(out, "empty ", b"")?;
+    example(out, "abc ", b"abc")?;
     example(
-        b"448-bits ",
+        out,
+        "448-bits ",
         b"abcdbcdecdefdefgefghfghighijhijkijkljklmklmnlmnomnopnopq",
-    );
+    )?;
     example(
-        b"896-bits ",
+        out,
+        "896-bits ",
         b"abcdefghbcdefghicdefghijdefghijkefghijklfghijklmghijklmnhijklmnoijklmnopjklmnopqklmnopqrlmnopqrsmnopqrstnopqrstu",
-    );
-    example(b"1600-bits ", &[0xa3u8; 200]);
-    million();
-    lengths(0, 300);
-    around_blocks();
-    split_everywhere(8);
-    split_everywhere(136);
-    split_everywhere(137);
-    split_everywhere(300);
+    )?;
+    example(out, "1600-bits ", &[0xa3u8; 200])?;
+    million(out)?;
+    lengths(out, 0, 300)?;
+    around_blocks(out)?;
+    split_everywhere(out, 8)?;
+    split_everywhere(out, 136)?;
+    split_everywhere(out, 137)?;
+    split_everywhere(out, 300)?;
+    out.flush()
 }

@@ -1,6 +1,6 @@
 #![tactic(auto)]
 
 // Reads lines of shared count, joined count and depth, and writes curvature, alpha and weight for each.
-fn main() {
-    weights_run::run();
+fn main(rt: HostRuntime) {
+    weights_run::run(&mut rt.stdin(), &mut rt.stdout());
 }
