@@ -1,9 +1,4 @@
 pub mod Answers
 pub mod Rules
 pub mod Judging
-pub mod Entering
-pub mod Walk
 pub mod Begun
-pub mod Kept
-pub mod Children
-pub mod Changes

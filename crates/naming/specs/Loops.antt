@@ -12,10 +12,10 @@ use Rattle.bitset.specs.Counts.{count_same}
 use Rattle.cells.specs.Cells.{Id}
 use Rattle.store.specs.Limits.{name_limit}
 use Rattle.store.specs.Tables.{Store, store, names}
-use Rattle.naming.specs.Naming.{NameParts, called, is_new, fresh_count, named}
+use Rattle.naming.specs.Naming.{NameParts, called, is_new, fresh_count}
 use Rattle.naming.specs.Numbers.{count_further}
 use Rattle.naming.specs.Located.{Locates}
-use Rattle.naming.specs.Parts.{list_if, listed, with_row, cleared, list_if_names, named_parts}
+use Rattle.naming.specs.Parts.{list_if, listed, with_row, cleared, list_if_names}
 use Rattle.naming.specs.declared.lookup.Located.{Located}
 
 ------ the rows
@@ -104,19 +104,9 @@ module _ (x : Id) (ps : List Id) (new : List Bool) where
           let e : n ≡ i = omega arith in
           rw e (c.same u l o p ∙ rw (f u l o p) (listed_front (store h₀ k₀ r₀ u l o p) i))
 
------- what was located is what is named
-
-listed_same : (t : Store) (xs : ℕ → Id) (p q : ℕ → Bool) (n : ℕ) → ((i : ℕ) → i < n → p i ≡ q i) → listed t xs p n ≡ listed t xs q n
-unfolding listed
-listed_same t xs p q zero f = refl
-listed_same t xs p q (suc n) f =
-    let r : listed t xs p n ≡ listed t xs q n = listed_same t xs p q n (λ (i : ℕ) (h : i < n). f i (omega arith)) in
-    rw (f n (omega arith), r)
+------ what was located
 
 module _ (t : Store) (xs : ℕ → Id) (n : ℕ) (r : Located) (l : Locates t xs n r) where
   pub located_count : count_below (flag r.new) n ≡ r.fresh
   unfolding fresh_count
   located_count = count_same (flag r.new) (is_new t xs) n l.new ∙ sym l.fresh
-
-  pub located_named : (u v : Store) (from : ℕ) → 0 < length t.head → from ≡ names t → u ≡ listed t xs (flag r.new) n → v ≡ cleared u from r.fresh → v ≡ named t xs n
-  located_named u v from h e f g = rw (g, f, e, listed_same t xs (flag r.new) (is_new t xs) n l.new, l.fresh) (sym (named_parts t xs n h))

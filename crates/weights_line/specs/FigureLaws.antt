@@ -6,7 +6,8 @@ use borrow.Author.Tests.{le-leb, lt-leb, le-ltb}
 use Rattle.text.specs.Cases.{either}
 use Rattle.fixed.specs.Answers as fixed
 use Rattle.fixed.specs.Rules.{curvature_number, curvature_of, alpha_of, weight_number, weight_of}
-use Rattle.fixed.specs.Curvatures.{curvature_refused, curvature_range}
+use Rattle.fixed.specs.Curvatures.{curvature_refused}
+use Rattle.fixed.proofs.Curvatures.{curvature_range}
 use Rattle.weights_line.specs.declared.figures.Answer.{Answer}
 use Rattle.weights_line.specs.declared.figures.Answer.TheVariants as answer
 use Rattle.weights_line.specs.Rules.{figures_of}

@@ -5,7 +5,7 @@ use Rattle.std.proofs.lemmas.Bool.{lt-leb}
 use Rattle.text.specs.Cases.{either}
 use Rattle.fixed.specs.Rules.{scale, in_range, curvature_number, alpha_of, weight_number}
 use Rattle.fixed.specs.Unsigned.{raised}
-use Rattle.fixed.specs.Curvatures.{curvature_range}
+use Rattle.fixed.proofs.Curvatures.{curvature_range}
 use Rattle.fixed.specs.Weights.{alpha_most, weight_edge, edge_most}
 use Rattle.text.specs.Ascii.{ascii}
 use Rattle.text.specs.Numeral.{most_digits}

@@ -1,6 +1,6 @@
 -- Refused or emptied, by the test of the lengths.
 use Rattle.store.specs.Tables.{store}
-use Rattle.dag.specs.Entering.{empty_refused, empty_done}
+use Rattle.dag.proofs.Entering.{empty_refused, empty_done}
 use Rattle.dag.proofs.emptying.empty.Goals as goal
 
 pub returns-then-not-lengths_right : goal.returns-then-not-lengths_right

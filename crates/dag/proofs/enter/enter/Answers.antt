@@ -4,7 +4,7 @@ use mathlib.Core.List.{[]}
 use native.Mathlib.Omega.{arith}
 use lib.ListN.{get_or}
 use Rattle.store.specs.Tables.{Store, store, entries}
-use Rattle.dag.specs.Entering.{entered_start, entered_stop, entered_more, entered_end, child_count}
+use Rattle.dag.proofs.Entering.{entered_start, entered_stop, entered_more, entered_end, child_count}
 use borrow.Author.Rules.{rules}
 use Rattle.dag.proofs.enter.enter.Goals as goal
 

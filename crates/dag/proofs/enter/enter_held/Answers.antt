@@ -4,7 +4,7 @@ use mathlib.Core.List.{[]}
 use native.Mathlib.Omega.{arith}
 use lib.ListN.{get_or}
 use Rattle.store.specs.Tables.{Store, store, entries}
-use Rattle.dag.specs.Entering.{held_start, held_step, held_end, if_count}
+use Rattle.dag.proofs.Entering.{held_start, held_step, held_end, if_count}
 use borrow.Author.Rules.{rules}
 use Rattle.dag.proofs.enter.enter_held.Goals as goal
 

@@ -1,6 +1,6 @@
 -- By cases of the test: a held name gets the entry, and for another nothing is done.
 use Rattle.store.specs.Tables.{store}
-use Rattle.dag.specs.Entering.{if_held, if_unheld}
+use Rattle.dag.proofs.Entering.{if_held, if_unheld}
 use Rattle.dag.proofs.enter.enter_one.Goals as goal
 
 pub returns-then-is_held : goal.returns-then-is_held

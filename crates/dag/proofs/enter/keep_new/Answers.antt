@@ -2,7 +2,7 @@
 use Prim.Native.Nat.{◌+◌}
 use lib.ListN.{get_or}
 use Rattle.store.specs.Tables.{store}
-use Rattle.dag.specs.Entering.{kept_new_lem}
+use Rattle.dag.proofs.Entering.{kept_new_lem}
 use Rattle.dag.proofs.enter.keep_new.Goals as goal
 
 pub returns : goal.returns

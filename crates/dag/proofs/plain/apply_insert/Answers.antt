@@ -4,8 +4,9 @@ use mathlib.Core.Path.{ap, ◌∙◌}
 use native.Mathlib.Omega.{arith}
 use lib.ListN.{get_or}
 use Rattle.store.specs.Tables.{store, unmarked}
-use Rattle.dag.specs.Begun.{name_parts, enterable, own_located, parent_located, insert_keepable}
-use Rattle.dag.specs.Entering.{tried_stopped, tried_passed}
+use Rattle.dag.specs.Begun.{name_parts}
+use Rattle.dag.proofs.Begun.{enterable, own_located, parent_located, insert_keepable}
+use Rattle.dag.proofs.Entering.{tried_stopped, tried_passed}
 use Rattle.dag.proofs.plain.apply_insert.Goals as goal
 
 pub name_all-requires : goal.name_all-requires

@@ -3,7 +3,7 @@ use native.Mathlib.Omega.{arith}
 use mathlib.Core.Path.{sym, ◌∙◌}
 use Rattle.store.specs.Tables.{store}
 use Rattle.dag.specs.Judging.{insert_fine}
-use Rattle.dag.specs.Entering.{insert_refused, insert_tried_lem}
+use Rattle.dag.proofs.Entering.{insert_refused, insert_tried_lem}
 use Rattle.dag.proofs.plain.insert.Goals as goal
 
 pub apply_insert-requires : goal.apply_insert-requires

@@ -5,8 +5,9 @@ use native.Mathlib.Omega.{arith}
 use lib.ListN.{get_or}
 use Rattle.store.specs.Tables.{store, place_of, unmarked}
 use Rattle.dag.specs.Rules.{places_wanted}
-use Rattle.dag.specs.Begun.{name_parts, enterable, own_below, own_located, parent_located, genesis_parts, genesis_record, genesis_keepable}
-use Rattle.dag.specs.Entering.{genesis_known, genesis_new}
+use Rattle.dag.specs.Begun.{name_parts}
+use Rattle.dag.proofs.Begun.{enterable, own_below, own_located, parent_located, genesis_parts, genesis_record, genesis_keepable}
+use Rattle.dag.proofs.Entering.{genesis_known, genesis_new}
 use Rattle.dag.proofs.roots.apply_genesis.Goals as goal
 
 pub name_all-requires : goal.name_all-requires

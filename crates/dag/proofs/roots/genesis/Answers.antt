@@ -3,7 +3,7 @@ use native.Mathlib.Omega.{arith}
 use mathlib.Core.Path.{sym, ◌∙◌}
 use Rattle.store.specs.Tables.{store}
 use Rattle.dag.specs.Judging.{genesis_fine}
-use Rattle.dag.specs.Entering.{genesis_done_lem, genesis_refused}
+use Rattle.dag.proofs.Entering.{genesis_done_lem, genesis_refused}
 use Rattle.dag.proofs.roots.genesis.Goals as goal
 
 pub apply_genesis-requires : goal.apply_genesis-requires

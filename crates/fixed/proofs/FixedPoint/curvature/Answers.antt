@@ -1,6 +1,7 @@
 -- `fixed::FixedPoint::curvature` meets its contract: it refuses by the rule's own test, and else lowers the raised curvature.
 use mathlib.Core.Path.{sym}
-use Rattle.fixed.specs.Curvatures.{curvature_refused, curvature_served, raised_curvature_most}
+use Rattle.fixed.specs.Curvatures.{curvature_refused, raised_curvature_most}
+use Rattle.fixed.proofs.Curvatures.{curvature_served}
 use Rattle.fixed.proofs.FixedPoint.curvature.Goals as goal
 
 pub returns-then-joined-shared : goal.returns-then-joined-shared

@@ -1,6 +1,7 @@
 -- `naming::name::name_all` meets its contract. Listing the new ids and clearing as many rows is naming (`located_named`).
 use native.Mathlib.Omega.{arith}
-use Rattle.naming.specs.Loops.{located_count, located_named}
+use Rattle.naming.specs.Loops.{located_count}
+use Rattle.naming.proofs.NamedParts.{located_named}
 use Rattle.naming.proofs.name.name_all.Goals as goal
 
 pub list_all-requires : goal.list_all-requires

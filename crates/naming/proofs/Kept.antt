@@ -12,7 +12,7 @@ use Rattle.store.specs.Views.{SameNulls, SameRecord, SameEntry, SamePair, SamePe
 use Rattle.store.specs.Chains.{children_same}
 use Rattle.naming.specs.Naming.{is_new, name_if, named, number_at}
 use Rattle.naming.specs.Numbers.{number_old, number_new, number_of_below}
-use Rattle.naming.specs.Named.{Nameable, nameable_less, progress, room_here, number_named}
+use Rattle.naming.proofs.Named.{Nameable, nameable_less, progress, room_here, number_named}
 
 -- u has all that t held
 pub record Kept (t u : Store) : Type 0 where

@@ -12,8 +12,8 @@ use Rattle.store.specs.Views.{SameNames, SameRecord, SameRest, held_same, counte
 use Rattle.store.specs.Kept.{null_sound}
 use Rattle.store.specs.Chains.{children_kept}
 use Rattle.naming.specs.Naming.{called, named, fresh_count}
-use Rattle.naming.specs.Named.{named_names, named_sound, number_after, named_number_of}
-use Rattle.naming.specs.Kept.{named_kept, named_children, named_held}
+use Rattle.naming.proofs.Named.{named_names, named_sound, number_after, named_number_of}
+use Rattle.naming.proofs.Kept.{named_kept, named_children, named_held}
 use Rattle.dag.specs.declared.answers.DagRefusal.{DagRefusal}
 use Rattle.dag.specs.declared.answers.DagRefusal.TheVariants.{StoreBad, ListTooLong, DuplicateNullifier, TooManyParents, TooFewParents, MissingParent, NameRoom, ChildRoom, NullifierRoom}
 use Rattle.dag.specs.declared.answers.Verdict.{Verdict}
@@ -25,9 +25,9 @@ use Rattle.dag.specs.declared.answers.Reply.TheVariants.{Done, Refused}
 use Rattle.dag.specs.Rules.{Left, left, by_verdict, begun, own_name, parent_name, kept_new, insert_verdict, Walked, entered, stored_if, insert_tried, insert_of, places_wanted, genesis_verdict, held_entered, kept_at, genesis_done, genesis_of}
 use Rattle.dag.specs.Judging.{Room, insert_fine, genesis_fine}
 use Rattle.store.specs.Same.{names_then, record_then, rest_then}
-use Rattle.dag.specs.Walk.{OnlyEntries, entered_only, held_only}
-use Rattle.dag.specs.Begun.{can_name, can_enter, begun_sound, begun_named, begun_spent, begun_place}
-use Rattle.dag.specs.Children.{shares, passed_of, list_if, walk_children, held_children}
+use Rattle.dag.proofs.Walk.{OnlyEntries, entered_only, held_only}
+use Rattle.dag.proofs.Begun.{can_name, can_enter, begun_sound, begun_named, begun_spent, begun_place}
+use Rattle.dag.proofs.Children.{shares, passed_of, list_if, walk_children, held_children}
 
 ------ steps after the naming
 

@@ -21,8 +21,8 @@ use Rattle.dag.specs.declared.answers.Reply.{Reply}
 use Rattle.dag.specs.declared.answers.Reply.TheVariants.{Done, Refused}
 use Rattle.dag.specs.Rules.{Left, left, by_verdict, empty_of, begun, own_name, parent_name, kept_new, insert_verdict, Walked, entered, stored_if, insert_tried, insert_of, places_wanted, genesis_verdict, held_entered, kept_at, genesis_done, genesis_of}
 use Rattle.dag.specs.Judging.{Room, insert_fine, genesis_fine}
-use Rattle.dag.specs.Walk.{OnlyEntries, entered_only, held_only}
-use Rattle.dag.specs.Begun.{can_enter, begun_sound, begun_place, begun_spent, begun_named}
+use Rattle.dag.proofs.Walk.{OnlyEntries, entered_only, held_only}
+use Rattle.dag.proofs.Begun.{can_enter, begun_sound, begun_place, begun_spent, begun_named}
 
 ------ uniqueness
 
