@@ -1,4 +1,4 @@
--- FIPS 202, "SHA-3 Standard" (NIST, August 2015): sha3_256 on strings of bits, section by section. It leans on no other file of ours.
+-- FIPS 202, "SHA-3 Standard" (NIST, August 2015): SHA3-256 on strings of bits, section by section. It leans on no other file of ours.
 use Rattle.std.specs.Prelude.{ℕ, zero, suc, ◌+◌, ◌-◌, ◌*◌, ◌/◌, ◌%◌, ◌^◌, cond, ◌&&◌, List, [], ◌∷◌, ◌++◌, eqb, length, get_or, set, take, drop, replicate}
 
 -- 2.3 A bit is 0 or 1, and a string of bits is a list. The standard's len(X) is `length X`, X[i] is `get_or X i 0`, X || Y is `X ++ Y`,
@@ -107,7 +107,7 @@ unfoldable pub ι : State → ℕ → State
 ι A i zero (suc y) z = A 0 (suc y) z
 ι A i (suc x) y z = A (suc x) y z
 
--- 3.3 Rnd, and keccak_p[b, 24], Algorithm 7: the rounds 0 to 23
+-- 3.3 Rnd, and KECCAK-p[b, 24], Algorithm 7: the rounds 0 to 23
 unfoldable pub Rnd : State → ℕ → State
 Rnd A i = ι (χ (π (ρ (θ A)))) i
 
@@ -140,7 +140,7 @@ pad10*1 x m = 1 ∷ [] ++ replicate (back x 0 (m + 2)) 0 ++ 1 ∷ []
 unfoldable pub KECCAK : ℕ → Bits → ℕ → Bits
 KECCAK c N d = SPONGE keccak_p pad10*1 (b - c) N d
 
--- 6.1 sha3_256(M) = KECCAK[512](M || 01, 256)
+-- 6.1 SHA3-256(M) = KECCAK[512](M || 01, 256)
 unfoldable pub sha3_256 : Bits → Bits
 sha3_256 M = KECCAK 512 (M ++ 0 ∷ 1 ∷ []) 256
 

@@ -1,4 +1,4 @@
--- keccak_p on lanes. The lane (x, y) is a number of 64 bits, whose bit z is A[x, y, z]; it stands at 5y + x of a list of 25.
+-- KECCAK-p on lanes. The lane (x, y) is a number of 64 bits, whose bit z is A[x, y, z]; it stands at 5y + x of a list of 25.
 -- Six of the lanes are kept complemented from round to round, so that χ needs five complements instead of 25
 -- (Keccak implementation overview, section 2.2, "lane complementing").
 use Rattle.std.specs.Prelude.{ℕ, zero, suc, ◌+◌, ◌-◌, ◌*◌, ◌/◌, ◌%◌, ◌^◌, List, [], ◌∷◌, get_or}

@@ -1,4 +1,4 @@
--- The permutation of lanes is FIPS 202's keccak_p, bit for bit.
+-- The permutation of lanes is FIPS 202's KECCAK-p, bit for bit.
 use Rattle.std.specs.Prelude.{◌≡◌, refl, List, [], ◌∷◌, ◌++◌, ltb, length, get_or}
 use Rattle.std.proofs.Common.{sym, ap, ◌∙◌, subst, append_assoc, append-nil, mod-lt, arith, lit<, ltb→lt}
 use Rattle.std.proofs.Math.Path.{ap₂}
@@ -354,7 +354,7 @@ pub permuted_length : (s : List ℕ) → length (permuted s) ≡ 25
 unfolding permuted veiled
 permuted_length s = refl
 
--- keccak_p on lanes is keccak_p on their bits
+-- KECCAK-p on lanes is KECCAK-p on their bits
 pub permuted_bits : (s : List ℕ) → ((i : ℕ) → i < 25 → lane s i < 2 ^ 64) → bits_by 64 (permuted s) ≡ keccak_p (bits_by 64 s)
 unfolding keccak_p
 permuted_bits s small =

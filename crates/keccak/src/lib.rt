@@ -1,4 +1,4 @@
-// keccak_p[1600, 24], the permutation of FIPS 202, on 25 lanes of 64 bits: lane (x, y) stands at 5 y + x.
+// KECCAK-p[1600, 24], the permutation of FIPS 202, on 25 lanes of 64 bits: lane (x, y) stands at 5 y + x.
 //
 // Six lanes are kept complemented between the rounds (`veil`), which spares most of the complements of χ: where a lane is
 // complemented, an `and` becomes an `or`. specs/Lanes has the rounds so, specs/Link that their bits are FIPS 202's.

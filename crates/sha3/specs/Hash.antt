@@ -1,4 +1,4 @@
--- sha3_256 of bytes, as a sponge on lanes that takes in one byte after another.
+-- SHA3-256 of bytes, as a sponge on lanes that takes in one byte after another.
 use Rattle.std.specs.Prelude.{ℕ, zero, suc, ◌+◌, ◌-◌, ◌*◌, ◌/◌, ◌%◌, ◌^◌, cond, List, [], ◌∷◌, ◌++◌, eqb, set, replicate}
 use Rattle.std.specs.Int.Bits.{bit_xor}
 use Rattle.keccak.specs.Fips202.{listed}
@@ -60,6 +60,6 @@ output s = listed 32 0 (byte_of s)
 unfoldable pub digest : Hasher → List ℕ
 digest h = output (taken h (padding (135 - h.at % rate))).lanes
 
--- sha3_256 of a list of bytes
+-- SHA3-256 of a list of bytes
 unfoldable pub sha3 : List ℕ → List ℕ
 sha3 m = digest (after m)

@@ -1,4 +1,4 @@
--- sha3_256 of bytes is FIPS 202's sha3_256 of their bits.
+-- SHA3-256 of bytes is FIPS 202's SHA3-256 of their bits.
 use Rattle.std.specs.Prelude.{◌≡◌, refl, ◌⊎◌, Bool, true, false, cond, List, [], ◌∷◌, ◌++◌, length, get_or, set, take, drop, replicate}
 use Rattle.std.proofs.Math.Path.{sym, ap}
 use Rattle.std.proofs.Common.{ap₂, subst, ◌∙◌, inl, inr, append_assoc, append-nil, mod-lt, mod-eq_of_lt, add-zero, zero-add, mul-zero, mul-suc, not-suc-le-zero, le_of_suc-le-suc, eq-or-lt_of_le, lt_of_lt_of_le, add-one, arith, lit<, lit≤, length-set, length-append, length-drop, drop_of_length-le, pow_pos, pow_mono, shr-shr, shl_lt, ext_get_or, get_or-set_same, get_or-set_other, get_or-take, get_or-append-add, take-add, take_all, take-take, length-take-le}

@@ -1,4 +1,4 @@
-// sha3_256 of bytes: of a slice at once, or of parts that a hasher takes one after another.
+// SHA3-256 of bytes: of a slice at once, or of parts that a hasher takes one after another.
 #![tactic(auto)]
 
 mod block;
@@ -71,12 +71,4 @@ pub fn sha3_256(message: &[u8]) -> [u8; 32]
     ensures of_bits { bits_of result ≡ sha3_256 (bits_of message.now) }
 {
     Hasher::new().update(message).finish()
-}
-
-// For C and Rust, which pass and take slices and arrays as in Rust.
-#[unsafe(no_mangle)]
-pub extern "C" fn marrowkey_sha3_256(message: &[u8], hash: &mut [u8; 32])
-    ensures { hash.new ≡ sha3 message.now }
-{
-    *hash = sha3_256(message);
 }

@@ -1,4 +1,4 @@
-// sha3_256 of the messages that tools/sha3-vectors lists, a line for each: the published examples, every length from 0 to 300, lengths
+// SHA3-256 of the messages that tools/sha3-vectors lists, a line for each: the published examples, every length from 0 to 300, lengths
 // around each multiple of the rate, and messages in parts, split at every place.
 #![tactic(auto)]
 
