@@ -1,5 +1,5 @@
 -- Counts of the numbers that have a property, for any property. Assumes nothing.
-use Rattle.std.specs.Prelude.{◌≡◌, refl, Bool, true, false, cond, ◌&&◌, ◌||◌, ◌⊎◌, ℕ, zero, suc, ◌+◌, ◌-◌, ◌≤◌, ◌<◌}
+use Rattle.std.specs.Prelude.{◌≡◌, refl, Bool, true, false, cond, ◌&&◌, ◌||◌, ℕ, zero, suc, ◌+◌, ◌-◌, ◌≤◌, ◌<◌}
 use Rattle.std.proofs.Common.{sym, ap, ap₂, ◌∙◌, ⊎_elim, not-suc-le-zero, le_of_suc-le-suc, le_refl, add-zero, add-suc, add_assoc, eq-or-lt_of_le, arith}
 use Rattle.std.proofs.lemmas.Bool.{false≢true}
 use Rattle.bitset.specs.Cases.{lt_or_le}

@@ -1,5 +1,5 @@
 -- What an insert changes: names, the mark, the children of its parents, its own record and its nullifier; and no other view.
-use Rattle.std.specs.Prelude.{ℕ, suc, ◌+◌, ◌≤◌, ◌<◌, ◌≡◌, ◌≢◌, Bool, true, false, List, ◌++◌, length}
+use Rattle.std.specs.Prelude.{ℕ, suc, ◌+◌, ◌≤◌, ◌<◌, ◌≡◌, ◌≢◌, false, List, ◌++◌, length}
 use Rattle.std.proofs.Math.Path.{refl}
 use Rattle.std.proofs.Common.{sym, ap, ◌∙◌, arith}
 use Rattle.cells.specs.Cells.{Id, Bytes, IsId, same_id, pick_found, or_else}
@@ -22,7 +22,7 @@ use Rattle.dag.specs.declared.answers.Entered.{Entered}
 use Rattle.dag.specs.declared.answers.Entered.TheVariants.{Passed, Stopped}
 use Rattle.dag.specs.declared.answers.Reply.{Reply}
 use Rattle.dag.specs.declared.answers.Reply.TheVariants.{Done, Refused}
-use Rattle.dag.specs.Rules.{Left, left, by_verdict, begun, own_name, parent_name, kept_new, insert_verdict, Walked, entered, stored_if, insert_tried, insert_of, places_wanted, genesis_verdict, held_entered, kept_at, genesis_done, genesis_of}
+use Rattle.dag.specs.Rules.{Left, left, begun, own_name, parent_name, kept_new, insert_verdict, Walked, entered, stored_if, insert_tried, insert_of, places_wanted, genesis_verdict, held_entered, kept_at, genesis_done, genesis_of}
 use Rattle.dag.specs.Judging.{Room, insert_fine, genesis_fine}
 use Rattle.store.specs.Same.{names_then, record_then, rest_then}
 use Rattle.dag.proofs.Walk.{OnlyEntries, entered_only, held_only}

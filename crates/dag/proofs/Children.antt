@@ -15,7 +15,7 @@ use Rattle.store.specs.Views.{held_same}
 use Rattle.store.specs.Chains.{children_gained, children_other}
 use Rattle.dag.specs.declared.answers.Entered.{Entered}
 use Rattle.dag.specs.declared.answers.Entered.TheVariants.{Passed, Stopped}
-use Rattle.dag.specs.Rules.{Walked, walked, pick_walked, entered, pick_store, entered_if, held_entered}
+use Rattle.dag.specs.Rules.{walked, pick_walked, entered, pick_store, entered_if, held_entered}
 use Rattle.dag.proofs.Walk.{CanEnter, can_next, can_less, next_names, held_only}
 
 -- c, where the test holds

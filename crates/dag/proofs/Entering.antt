@@ -1,6 +1,6 @@
 -- The parents gone through in order, and what a call leaves by each way through its code.
 use Prim.Native.Nat.{ℕ, zero, suc, ◌+◌, ◌*◌, ◌-◌, ◌≤◌, ◌<◌}
-use Rattle.std.specs.Prelude.{◌≡◌, refl, Bool, true, false, List, length, get_or}
+use Rattle.std.specs.Prelude.{◌≡◌, refl, Bool, true, false, List, length}
 use Rattle.std.proofs.Math.Path.{sym}
 use Rattle.std.proofs.Common.{ap, ◌∙◌, add-one, get_or-set_same}
 use native.Mathlib.Omega.{arith}
@@ -16,9 +16,8 @@ use Rattle.dag.specs.declared.answers.Verdict.TheVariants.{Fine, Refuse}
 use Rattle.dag.specs.declared.answers.DagRefusal.{DagRefusal}
 use Rattle.dag.specs.declared.answers.Entered.{Entered}
 use Rattle.dag.specs.declared.answers.Entered.TheVariants.{Passed, Stopped}
-use Rattle.dag.specs.declared.answers.Reply.{Reply}
 use Rattle.dag.specs.declared.answers.Reply.TheVariants.{Done, Refused}
-use Rattle.dag.specs.Rules.{Left, left, by_verdict, empty_of, Walked, walked, pick_walked, entered, after_walk, begun, own_name, parent_name, kept_new, insert_verdict, insert_tried, insert_of, entered_if, pick_store, held_entered, kept_at, genesis_verdict, genesis_done, genesis_of}
+use Rattle.dag.specs.Rules.{Left, left, empty_of, walked, pick_walked, entered, begun, own_name, parent_name, kept_new, insert_verdict, insert_tried, insert_of, entered_if, pick_store, held_entered, kept_at, genesis_verdict, genesis_done, genesis_of}
 
 ------ names read from a list stand for the names themselves
 

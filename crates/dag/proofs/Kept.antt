@@ -1,12 +1,12 @@
 -- A store that is not bad is not bad after any of these calls; and a call's promise leaves one answer and one set of parts.
-use Rattle.std.specs.Prelude.{ℕ, suc, ◌+◌, ◌≤◌, ◌<◌, ◌≡◌, refl, Bool, true, false, List, length}
+use Rattle.std.specs.Prelude.{ℕ, suc, ◌≤◌, ◌<◌, ◌≡◌, refl, Bool, true, false, List, length}
 use Rattle.std.proofs.Common.{sym, ap, ◌∙◌, arith}
 use Rattle.cells.specs.Cells.{Id, has_id}
 use Rattle.cells.specs.First.{first_found}
 use Rattle.cells.specs.declared.Found.{Found}
 use Rattle.cells.specs.declared.Found.TheVariants.{At, Nothing}
 use Rattle.store.specs.Limits.{parent_limit, null_limit, nulls_at}
-use Rattle.store.specs.Tables.{Store, names, spent, used, place_of, with_null, with_record, emptied}
+use Rattle.store.specs.Tables.{Store, names, spent, used, place_of, with_null, with_record}
 use Rattle.store.specs.Sound.{lengths_right}
 use Rattle.store.specs.Facts.{Sound, lengths_known}
 use Rattle.store.specs.Views.{counted, more_spent, null_used}
@@ -19,10 +19,10 @@ use Rattle.dag.specs.declared.answers.Entered.{Entered}
 use Rattle.dag.specs.declared.answers.Entered.TheVariants.{Passed, Stopped}
 use Rattle.dag.specs.declared.answers.Reply.{Reply}
 use Rattle.dag.specs.declared.answers.Reply.TheVariants.{Done, Refused}
-use Rattle.dag.specs.Rules.{Left, left, by_verdict, empty_of, begun, own_name, parent_name, kept_new, insert_verdict, Walked, entered, stored_if, insert_tried, insert_of, places_wanted, genesis_verdict, held_entered, kept_at, genesis_done, genesis_of}
+use Rattle.dag.specs.Rules.{Left, left, by_verdict, empty_of, begun, own_name, parent_name, kept_new, insert_verdict, entered, stored_if, insert_tried, insert_of, places_wanted, genesis_verdict, held_entered, kept_at, genesis_done, genesis_of}
 use Rattle.dag.specs.Judging.{Room, insert_fine, genesis_fine}
 use Rattle.dag.proofs.Walk.{OnlyEntries, entered_only, held_only}
-use Rattle.dag.proofs.Begun.{can_enter, begun_sound, begun_place, begun_spent, begun_named}
+use Rattle.dag.proofs.Begun.{can_enter, begun_place, begun_spent, begun_named}
 
 ------ uniqueness
 

@@ -1,14 +1,14 @@
 -- What the walk over the parents changes: child entries, and nothing else.
 use Rattle.std.specs.Prelude.{ℕ, zero, suc, ◌+◌, ◌≤◌, ◌<◌, ◌≡◌, refl, Bool, true, false}
-use Rattle.std.proofs.Common.{sym, ap, ◌∙◌, arith}
+use Rattle.std.proofs.Common.{◌∙◌, arith}
 use Rattle.store.specs.Limits.{name_limit, child_limit}
 use Rattle.store.specs.Tables.{Store, names, entries, spent, pairs, waiting, accepted, used, marked, held, with_child}
 use Rattle.store.specs.Facts.{Sound}
 use Rattle.store.specs.Views.{SameNames, SameNulls, SameRecord, SameRest, counted, more_entries, child_used, child_mark, child_names, child_nulls, child_record, child_rest}
 use Rattle.store.specs.Kept.{child_sound}
 use Rattle.store.specs.Same.{names_self, nulls_self, record_self, rest_self, names_then, nulls_then, record_then, rest_then}
-use Rattle.dag.specs.declared.answers.Entered.TheVariants.{Passed, Stopped}
-use Rattle.dag.specs.Rules.{Walked, walked, pick_walked, entered, pick_store, entered_if, held_entered}
+use Rattle.dag.specs.declared.answers.Entered.TheVariants.{Stopped}
+use Rattle.dag.specs.Rules.{walked, pick_walked, entered, pick_store, entered_if, held_entered}
 
 -- u is t with child entries more, n at most
 pub record OnlyEntries (t u : Store) (n : ℕ) : Type 0 where

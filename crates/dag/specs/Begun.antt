@@ -3,7 +3,7 @@ use Rattle.std.specs.Prelude.{ℕ, ◌+◌, ◌≤◌, ◌<◌, ◌≡◌, List,
 use Rattle.store.specs.Limits.{name_limit, parent_limit, child_limit, null_limit, head_length, keys_length, rests_length}
 use Rattle.store.specs.Tables.{Store}
 use Rattle.store.specs.Facts.{Sound}
-use Rattle.naming.specs.Naming.{NameParts, named}
+use Rattle.naming.specs.Naming.{NameParts}
 
 ------ the parts that a step reads or writes
 

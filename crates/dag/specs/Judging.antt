@@ -1,6 +1,6 @@
 -- A verdict in each of its cases, and what is known once it is fine.
 use Rattle.std.specs.Prelude.{ℕ, suc, ◌+◌, ◌-◌, ◌≤◌, ◌<◌, ◌≡◌, refl, Bool, true, false, List, length, ltb}
-use Rattle.std.proofs.Common.{sym, ap, ◌∙◌, arith}
+use Rattle.std.proofs.Common.{ap, ◌∙◌, arith}
 use borrow.Author.Tests.{lt-ltb, le-ltb, ltb-false, not-false}
 use Rattle.cells.specs.Cells.{Id}
 use Rattle.store.specs.Limits.{name_limit, parent_limit, child_limit, null_limit, fewest_parents, most_parents}

@@ -1,6 +1,6 @@
 -- Two strings of bytes of one length are in the order of their numbers as soon as a byte decides it.
-use Rattle.std.specs.Prelude.{ℕ, zero, suc, ◌+◌, ◌*◌, ◌-◌, ◌^◌, ◌≤◌, ◌<◌, ◌≡◌, refl, Bool, true, false, List, [], ◌∷◌, ◌++◌, length, get_or, drop, leb}
-use Rattle.std.proofs.Common.{sym, ap, ◌∙◌, arith, mul-le-mul_right, pow-suc, add-one, length-drop, drop_of_length-le, drop-cons, get_or-drop, pow_pos, le-leb}
+use Rattle.std.specs.Prelude.{ℕ, suc, ◌+◌, ◌*◌, ◌^◌, ◌≤◌, ◌<◌, ◌≡◌, refl, true, false, List, [], ◌∷◌, length, get_or, drop, leb}
+use Rattle.std.proofs.Common.{sym, ap, ◌∙◌, arith, mul-le-mul_right, pow-suc, add-one, length-drop, drop_of_length-le, drop-cons, get_or-drop, le-leb}
 use Rattle.std.proofs.Math.Decide.{dec_lt}
 use Rattle.std.proofs.lemmas.Bool.{lt-leb}
 use Rattle.ident.specs.Ident.{big_endian, at_most}

@@ -1,5 +1,5 @@
 -- Parts hashed one after another are the concatenations that the definitions hash.
-use Rattle.std.specs.Prelude.{ℕ, zero, suc, ◌+◌, ◌<◌, ◌≤◌, ◌≡◌, refl, Bool, true, false, take, get_or, replicate, ltb}
+use Rattle.std.specs.Prelude.{ℕ, ◌+◌, ◌<◌, ◌≤◌, ◌≡◌, Bool, true, false, take, get_or, replicate}
 use Rattle.std.proofs.Common.{sym, ap, ◌∙◌, add-one, take-suc}
 use mathlib.Core.List.{List, [], ◌∷◌, ◌++◌, append_assoc, append-nil}
 use native.Mathlib.Omega.{arith}
@@ -7,7 +7,7 @@ use Rattle.std.proofs.Math.ListN.{length}
 use Rattle.std.proofs.Math.Seq.{take-length}
 use borrow.Author.Tests.{lt-ltb, le-ltb}
 use Rattle.sha3.specs.Hash.{sha3}
-use Rattle.ident.specs.Ident.{little_endian, joined, nullifier_tag, id_tag, nullifier_of, id_of, computed_id, key_limit, parent_limit, header, work_hash, work_of, at_most}
+use Rattle.ident.specs.Ident.{little_endian, joined, nullifier_tag, id_tag, nullifier_of, id_of, computed_id, key_limit, parent_limit, work_hash, work_of, at_most}
 use Rattle.ident.specs.declared.Verdict.TheVariants.{Fine, OutOfRange as KeyTooLong}
 use Rattle.ident.specs.declared.WorkAnswer.TheVariants.{Passes, Fails, ListTooLong, OutOfRange}
 

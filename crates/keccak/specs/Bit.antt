@@ -1,5 +1,5 @@
 -- The single bits of what the machine's operations give.
-use Rattle.std.specs.Prelude.{◌≡◌, refl, ◌⊎◌, ℕ, zero, suc, ◌+◌, ◌-◌, ◌*◌, ◌/◌, ◌%◌, ◌^◌, ◌≤◌, ◌<◌, min, max}
+use Rattle.std.specs.Prelude.{◌≡◌, ◌⊎◌, ℕ, zero, suc, ◌+◌, ◌-◌, ◌*◌, ◌/◌, ◌%◌, ◌^◌, ◌≤◌, ◌<◌, min, max}
 use Rattle.std.proofs.Common.{sym, ap, ap₂, ◌∙◌, subst, inl, inr, ⊎_elim, not-suc-le-zero, le_of_suc-le-suc, mod-lt, eq-zero-or-pos, pow-suc, add_comm, add-zero, add_assoc, eq-or-lt_of_le, lt_of_lt_of_le, arith, lit<, pow_pos, pow_mono, shr-shr, shr_lt}
 use Rattle.std.proofs.Math.Nat.{mul-mod_left, zero-div, div-eq_of_lt}
 use Rattle.std.proofs.Math.Arith.{digits_mod}

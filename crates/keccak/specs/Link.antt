@@ -1,5 +1,5 @@
 -- The permutation of lanes is FIPS 202's KECCAK-p, bit for bit.
-use Rattle.std.specs.Prelude.{◌≡◌, refl, List, [], ◌∷◌, ◌++◌, ltb, length, get_or}
+use Rattle.std.specs.Prelude.{◌≡◌, refl, List, ◌++◌, ltb, length, get_or}
 use Rattle.std.proofs.Common.{sym, ap, ◌∙◌, subst, append_assoc, append-nil, mod-lt, arith, lit<, ltb→lt}
 use Rattle.std.proofs.Math.Path.{ap₂}
 use Prim.Native.Nat.{ℕ, zero, suc, ◌+◌, ◌-◌, ◌*◌, ◌/◌, ◌%◌, ◌^◌, ◌≤◌, ◌<◌, max}
@@ -8,7 +8,7 @@ use Rattle.std.proofs.lemmas.Nat.{or_lt}
 use Rattle.std.proofs.Math.Pow.{ones_sub-lt}
 use Rattle.keccak.specs.Fips202.{Bits, State, ◌⊕◌, listed, array, string, Lane, C, D, θ, ρ, π, χ, ι, RC, rc, offset, Rnd, rounds, keccak_p, bit, bits_by}
 use Rattle.keccak.specs.Lanes.{Lanes, lane, turned, complement, parity, effect, effects, rotation, moved, origin, brought, Form, and, or, not_and, not_or, or_not, other_and, other_or, mix, form, along, mixed, iota, round_of, constant_of, rounds_of, veil, under, veiled, permuted}
-use Rattle.keccak.specs.Each.{each, each_at, agree}
+use Rattle.keccak.specs.Each.{each_at, agree}
 use Rattle.keccak.specs.Strings.{listed_at, bits_by_at, joined, bits_by_joined, joined_same, listed_same}
 use Rattle.keccak.specs.Bit.{plus_assoc, plus_swap, plus_comm, plus_zero, xor_bit, and_bit, or_bit, not_bit, turned_bit, turned_lt}
 

@@ -3,7 +3,7 @@ use Rattle.std.specs.Prelude.{◌≡◌, get_or, replicate}
 use Rattle.std.proofs.Math.Path.{refl, sym, ap}
 use Rattle.std.proofs.Common.{ap₂, subst, ◌∙◌, not-suc-le-zero, le_of_suc-le-suc, zero-add, mul-zero, mod-lt, arith, lit<, length-append, drop_of_length-le, get_or-append-add, take_all}
 use mathlib.Core.List.{List, [], ◌∷◌, ◌++◌, append_assoc}
-use Prim.Native.Nat.{ℕ, zero, suc, ◌+◌, ◌*◌, ◌/◌, ◌%◌, ◌^◌, ◌≤◌, ◌<◌}
+use Prim.Native.Nat.{ℕ, zero, suc, ◌+◌, ◌*◌, ◌/◌, ◌%◌, ◌^◌, ◌<◌}
 use Rattle.std.proofs.Math.Nat.{zero-div, mul-suc}
 use Rattle.std.proofs.Math.ListN.{length, take, drop, get_or-append}
 use Rattle.std.proofs.Math.Seq.{take-append-add, drop-append-add}

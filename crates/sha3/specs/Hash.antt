@@ -1,5 +1,5 @@
 -- SHA3-256 of bytes, as a sponge on lanes that takes in one byte after another.
-use Rattle.std.specs.Prelude.{ℕ, zero, suc, ◌+◌, ◌-◌, ◌*◌, ◌/◌, ◌%◌, ◌^◌, cond, List, [], ◌∷◌, ◌++◌, eqb, set, replicate}
+use Rattle.std.specs.Prelude.{ℕ, zero, suc, ◌-◌, ◌*◌, ◌/◌, ◌%◌, ◌^◌, cond, List, [], ◌∷◌, ◌++◌, eqb, set, replicate}
 use Rattle.std.specs.Int.Bits.{bit_xor}
 use Rattle.keccak.specs.Fips202.{listed}
 use Rattle.keccak.specs.Lanes.{lane, permuted}

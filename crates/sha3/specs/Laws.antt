@@ -2,7 +2,7 @@
 use Rattle.std.specs.Prelude.{◌≡◌, List, [], ◌++◌, ℕ, ◌+◌, ◌*◌, ◌/◌, ◌^◌, ◌≤◌, ◌<◌, length, get_or, take}
 use Rattle.std.proofs.Common.{sym, ap, subst, ◌∙◌, ⊎_elim, append-nil, mod-lt, arith, lit≤, pow_pos, ext_get_or, take-take}
 use Rattle.std.proofs.Math.ListN.{get_or-eq_default}
-use Rattle.keccak.specs.Fips202.{Bits, bit, bits_of, absorbed, squeezed, keccak_p, SPONGE, KECCAK, sha3_256}
+use Rattle.keccak.specs.Fips202.{Bits, bits_of, absorbed, squeezed, keccak_p, SPONGE, KECCAK, sha3_256}
 use Rattle.keccak.specs.Bit.{below_or_not, same_bits}
 use Rattle.keccak.specs.Strings.{listed_at, bits_by_at, bits_by_length}
 use Rattle.sha3.specs.Hash.{byte_of, output, sha3}

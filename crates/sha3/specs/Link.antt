@@ -1,23 +1,22 @@
 -- SHA3-256 of bytes is FIPS 202's SHA3-256 of their bits.
-use Rattle.std.specs.Prelude.{◌≡◌, refl, ◌⊎◌, Bool, true, false, cond, List, [], ◌∷◌, ◌++◌, length, get_or, set, take, drop, replicate}
+use Rattle.std.specs.Prelude.{◌≡◌, refl, ◌⊎◌, Bool, cond, List, [], ◌∷◌, ◌++◌, length, get_or, set, take, drop, replicate}
 use Rattle.std.proofs.Math.Path.{sym, ap}
-use Rattle.std.proofs.Common.{ap₂, subst, ◌∙◌, inl, inr, append_assoc, append-nil, mod-lt, mod-eq_of_lt, add-zero, zero-add, mul-zero, mul-suc, not-suc-le-zero, le_of_suc-le-suc, eq-or-lt_of_le, lt_of_lt_of_le, add-one, arith, lit<, lit≤, length-set, length-append, length-drop, drop_of_length-le, pow_pos, pow_mono, shr-shr, shl_lt, ext_get_or, get_or-set_same, get_or-set_other, get_or-take, get_or-append-add, take-add, take_all, take-take, length-take-le}
+use Rattle.std.proofs.Common.{ap₂, subst, ◌∙◌, inl, inr, append_assoc, mod-lt, add-zero, zero-add, mul-zero, mul-suc, eq-or-lt_of_le, lt_of_lt_of_le, arith, lit<, length-set, length-append, length-drop, pow_pos, pow_mono, shr-shr, shl_lt, ext_get_or, get_or-set_same, get_or-set_other, get_or-take, take-add, take_all, length-take-le}
 use Rattle.std.proofs.Math.Logic.{⊎_elim}
 use Prim.Native.Nat.{ℕ, zero, suc, ◌+◌, ◌-◌, ◌*◌, ◌/◌, ◌%◌, ◌^◌, ◌≤◌, ◌<◌}
-use Rattle.std.proofs.Math.Nat.{zero-div, div-eq_of_lt}
 use borrow.Author.Tests.{eq-eqb, ne_eqb}
 use Rattle.std.specs.Int.Bits.{bit_xor}
 use Rattle.std.proofs.lemmas.Nat.{xor_lt}
 use Rattle.std.proofs.Math.Dec.{eqb}
 use Rattle.std.proofs.lemmas.List.{length-replicate, replicate-append-replicate}
-use Rattle.std.proofs.Math.Seq.{set_out, take-append-add, drop-append-add}
-use Rattle.keccak.specs.Fips202.{Bits, ◌⊕◌, xor, listed, bit, bits_by, bits_of, absorbed, squeezed, pad10*1, keccak_p, SPONGE, KECCAK, sha3_256}
+use Rattle.std.proofs.Math.Seq.{set_out}
+use Rattle.keccak.specs.Fips202.{Bits, ◌⊕◌, xor, listed, bit, bits_by, bits_of, absorbed, pad10*1, keccak_p}
 use Rattle.keccak.specs.Lanes.{lane, permuted}
 use Rattle.keccak.specs.Strings.{listed_at, listed_length, bits_by_length, bits_by_append, bits_by_take, bits_by_drop, xor_at, xor_length, zeros_at, padded_at, byte_bit, lane_bit}
 use Rattle.keccak.specs.Bit.{below_or_not, equal_or_not, plus_assoc, plus_zero, zero_plus, zero_bit, high_bit, xor_bit, low_bit, under_bit, over_bit}
 use Rattle.keccak.specs.Link.{permuted_bits, permuted_lt, permuted_length}
 use Rattle.sha3.specs.declared.Hasher.{Hasher}
-use Rattle.sha3.specs.Hash.{plus_lane, plus_byte, plus_bytes, holding, take_byte, take_bytes, taken, after, padding, byte_of, output, digest, sha3}
+use Rattle.sha3.specs.Hash.{plus_lane, plus_byte, plus_bytes, take_byte, take_bytes, taken, after, padding, byte_of, output, digest, sha3}
 use Rattle.sha3.specs.Sponge.{of, holding_full, holding_part, take_bytes_append, take_bytes_block, after_more}
 
 -- 1. Adding bytes to lanes is adding their bits.

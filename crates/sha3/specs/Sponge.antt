@@ -1,6 +1,6 @@
 -- Laws of the byte-wise sponge: parts one after the other, blocks, and lanes.
-use Rattle.std.specs.Prelude.{◌≡◌, refl, Bool, true, false, cond, List, [], ◌∷◌, ◌++◌, ℕ, zero, suc, ◌+◌, ◌-◌, ◌*◌, ◌/◌, ◌%◌, ◌^◌, ◌≤◌, ◌<◌, eqb, length, get_or, set, take, drop, replicate}
-use Rattle.std.proofs.Common.{sym, ap, ap₂, subst, ◌∙◌, ⊎_elim, mod-eq_of_lt, mod-lt, eq-or-lt_of_le, add-zero, zero-mul, mul_assoc, add-mul, add-one, arith, eq-eqb, ne_eqb, pow_pos, pow-add, shl_lt, lit<, lit≤, length-drop, take-suc, take-add, drop-drop, set-set, get_or-set_same, length-take-le}
+use Rattle.std.specs.Prelude.{◌≡◌, refl, Bool, cond, List, [], ◌∷◌, ◌++◌, ℕ, suc, ◌+◌, ◌*◌, ◌/◌, ◌%◌, ◌^◌, ◌≤◌, ◌<◌, length, get_or, set, take, drop, replicate}
+use Rattle.std.proofs.Common.{sym, ap, ap₂, subst, ◌∙◌, ⊎_elim, mod-eq_of_lt, mod-lt, eq-or-lt_of_le, add-zero, zero-mul, mul_assoc, add-mul, add-one, arith, eq-eqb, ne_eqb, pow_pos, pow-add, shl_lt, lit<, length-drop, take-suc, take-add, drop-drop, set-set, get_or-set_same, length-take-le}
 use Rattle.std.specs.Int.Bits.{bit_xor, xor_shifted, xor_zero_r}
 use Rattle.std.proofs.lemmas.Nat.{xor_comm}
 use Rattle.std.proofs.Math.Seq.{set_out}

@@ -1,5 +1,5 @@
 -- What is unchanged by one step and by the next is unchanged by both.
-use Rattle.std.specs.Prelude.{ℕ, ◌≤◌, ◌<◌, ◌≡◌, refl}
+use Rattle.std.specs.Prelude.{ℕ, ◌≤◌, ◌<◌, refl}
 use Rattle.std.proofs.Common.{◌∙◌, arith}
 use Rattle.cells.specs.Cells.{Id}
 use Rattle.store.specs.Limits.{name_limit, parent_limit, null_limit, pending_limit, pair_limit}

@@ -8,7 +8,6 @@ use Rattle.fixed.specs.Answers as fixed
 use Rattle.fixed.specs.Rules.{curvature_number, curvature_of, alpha_of, weight_number, weight_of}
 use Rattle.fixed.specs.Curvatures.{curvature_refused}
 use Rattle.fixed.proofs.Curvatures.{curvature_range}
-use Rattle.weights_line.specs.declared.figures.Answer.{Answer}
 use Rattle.weights_line.specs.declared.figures.Answer.TheVariants as answer
 use Rattle.weights_line.specs.Rules.{figures_of}
 

@@ -9,7 +9,6 @@ use Rattle.text.specs.Pieces.{space, place_of, words}
 use Rattle.text.specs.PieceLaws.{pieces_one, pieces_more, by_place, no_number}
 use Rattle.text.specs.declared.number.Number.{Number}
 use Rattle.text.specs.declared.number.Number.TheVariants as number
-use Rattle.weights_line.specs.declared.line.Line.{Line}
 use Rattle.weights_line.specs.declared.line.Line.TheVariants as line
 use Rattle.weights_line.specs.Rules.{most_bytes, most_joined, counts_of, from_words, line_of}
 

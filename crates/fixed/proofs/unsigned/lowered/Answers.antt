@@ -13,7 +13,7 @@ pub returns : goal.returns
 unfolding lowered
 returns c =
     let fits : SFits w32 (lowered c.args.curvature) =
-        record { sfits = omega (arith, range_size (lowered c.args.curvature) (lowered_range c.args.curvature c.requires)) } in
+    record { sfits = omega (arith, range_size (lowered c.args.curvature) (lowered_range c.args.curvature c.requires)) } in
     -- the number, as the machine reads it
     let read : to_z w32 c.args.curvature ≡ pos c.args.curvature = to_z_pos w32 (omega arith) in
     rw read (to_z-of_z fits)

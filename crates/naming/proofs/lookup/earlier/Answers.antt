@@ -3,7 +3,6 @@ use mathlib.Core.Path.{◌≡◌, ◌∙◌, sym, ap, refl}
 use mathlib.Core.Bool.{true, false}
 use native.Mathlib.Omega.{arith}
 use native.Mathlib.Numerals.{add-one}
-use Rattle.cells.specs.Cells.{same_id}
 use Rattle.cells.specs.First.{first_start, first_hit, first_miss, first_end}
 use Rattle.cells.specs.declared.Found.TheVariants.{At}
 use Rattle.naming.proofs.lookup.earlier.Invariants.{alike}

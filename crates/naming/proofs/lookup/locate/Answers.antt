@@ -5,7 +5,7 @@ use native.Mathlib.Omega.{arith}
 use native.Mathlib.Numerals.{one-add}
 use lib.ListN.{length}
 use Rattle.cells.specs.First.{first_found, first_end}
-use Rattle.naming.specs.Located.{nowhere, locates_none, locates_step, fresh_few, whole_none, whole_more}
+use Rattle.naming.specs.Located.{locates_none, locates_step, fresh_few, whole_none, whole_more}
 use Rattle.naming.proofs.lookup.locate.Goals as goal
 
 pub locate_one-requires : goal.locate_one-requires

@@ -1,4 +1,4 @@
-use Rattle.std.proofs.Common.{ℕ, ◌<◌, eqb, eq-eqb, sym, arith, below_more}
+use Rattle.std.proofs.Common.{ℕ, eqb, eq-eqb, sym, arith, below_more}
 use Rattle.std.proofs.lemmas.List.Sums.{position_or_len_is}
 use Rattle.text.proofs.place.place_of.Goals as goal
 

@@ -1,6 +1,6 @@
 -- `weights_run::lines::put_answer` meets its contract: by the answer's two cases.
 use Prim.Native.Nat.{ℕ, ◌+◌, ◌≤◌}
-use mathlib.Core.Path.{◌≡◌, sym, ap, subst, ◌∙◌}
+use mathlib.Core.Path.{sym, ap, subst, ◌∙◌}
 use mathlib.Core.List.{List}
 use borrow.Author.Rules.{rules}
 use lib.ListN.{length}
@@ -8,7 +8,6 @@ use mir.Syntax.{w32}
 use mir.Val.{SFits}
 use mir.ValLaws.{to_z-of_z}
 use Rattle.text.specs.Put.{put_at}
-use Rattle.weights_run.specs.Output.{text_of}
 use Rattle.weights_run.specs.OutputLaws.{figures_row, bad_text}
 use Rattle.weights_run.proofs.lines.put_answer.Goals as goal
 
