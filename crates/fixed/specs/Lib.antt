@@ -1,5 +1,4 @@
 -- The rules of the fixed-point numbers, and their laws.
-pub mod Words
 pub mod Answers
 pub mod Rules
 pub mod Unsigned

@@ -1,10 +1,9 @@
 -- THE FIXED-POINT RULES, on whole numbers: `ℕ` from 0 up, and `ℤ` with a sign, where `pos n` is n and `negsuc n` is -(n + 1).
 -- `quot_z a b` is a / b cut toward zero, `sub_ℕ a b` is a - b, below zero too, and `nat_abs z` is z without its sign.
 -- Tests: `eqb` equal, `ltb` below, `leb` at most, and `lt_z` below with signs.
-use Rattle.std.specs.Prelude.{ℕ, suc, ◌-◌, ◌*◌, ◌/◌, ◌%◌, ◌^◌, Bool, eqb, ltb, leb, ℤ, pos, negsuc, nat_abs, ◌+ℤ◌, ◌-ℤ◌, ◌*ℤ◌}
+use Rattle.std.specs.Prelude.{if◌then◌else◌, ℕ, suc, ◌-◌, ◌*◌, ◌/◌, ◌%◌, ◌^◌, Bool, eqb, ltb, leb, ℤ, pos, negsuc, nat_abs, ◌+ℤ◌, ◌-ℤ◌, ◌*ℤ◌}
 use Rattle.std.proofs.Math.IntN.{sub_ℕ}
 use Rattle.std.specs.Int.Signed.{quot_z, lt_z}
-use Rattle.fixed.specs.Words.{if◌then◌else◌}
 use Rattle.fixed.specs.Answers.{Answer, served, out_of_range}
 
 -- ── The numbers that the rules name ──

@@ -1,9 +1,8 @@
 -- THE SAME RULES WITHOUT SIGNS, for what keeps curvatures in a table and multiplies weights along a walk. Here `-` stops at 0 and `/` cuts.
 -- A raised curvature is a curvature with 65,536 added, a number from 0 to 131,072.
-use Rattle.std.specs.Prelude.{ℕ, suc, ◌+◌, ◌-◌, ◌*◌, ◌/◌, max, eqb, ℤ, pos, negsuc, ◌+ℤ◌, ◌*ℤ◌}
+use Rattle.std.specs.Prelude.{if◌then◌else◌, ℕ, suc, ◌+◌, ◌-◌, ◌*◌, ◌/◌, max, eqb, ℤ, pos, negsuc, ◌+ℤ◌, ◌*ℤ◌}
 use Rattle.std.proofs.Math.IntN.{sub_ℕ}
 use Rattle.std.specs.Int.Signed.{quot_z}
-use Rattle.fixed.specs.Words.{if◌then◌else◌}
 use Rattle.fixed.specs.Rules.{scale, floor, alpha_of, held}
 
 -- the curvature z with 65,536 added

@@ -1,5 +1,5 @@
 -- Epochs, nullifiers, ids and the work test, in document 01's words. A string of bytes is a list.
-use Rattle.std.specs.Prelude.{ℕ, zero, suc, ◌+◌, ◌*◌, ◌/◌, ◌%◌, ◌^◌, Bool, true, false, List, [], ◌∷◌, ◌++◌, length, replicate, eqb, leb, ltb}
+use Rattle.std.specs.Prelude.{if◌then◌else◌, ℕ, zero, suc, ◌+◌, ◌*◌, ◌/◌, ◌%◌, ◌^◌, Bool, true, false, List, [], ◌∷◌, ◌++◌, length, replicate, eqb, leb, ltb}
 use Rattle.sha3.specs.Hash.{sha3}
 use Rattle.ident.specs.declared.EpochAnswer.{EpochAnswer}
 use Rattle.ident.specs.declared.EpochAnswer.TheVariants.{Is, OutOfRange as ZeroDivisor}
@@ -8,11 +8,6 @@ use Rattle.ident.specs.declared.Verdict.TheVariants.{Fine, OutOfRange as KeyTooL
 use Rattle.ident.specs.declared.ComputedId.{ComputedId}
 use Rattle.ident.specs.declared.WorkAnswer.{WorkAnswer}
 use Rattle.ident.specs.declared.WorkAnswer.TheVariants.{Passes, Fails, ListTooLong, OutOfRange}
-
-infixr 5 if◌then◌else◌
-abbrev pub if◌then◌else◌ : {A : Type 0} → Bool → A → A → A
-if true then a else b = a
-if false then a else b = b
 
 ------ limits
 

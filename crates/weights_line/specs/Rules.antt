@@ -1,8 +1,7 @@
 -- WHAT `weights` TAKES AND WHAT IT ANSWERS.
 -- A line is a list of bytes, its newline not among them. `words` are what stands between its spaces; `number_of` reads a word as a decimal
 -- number of 1 to 20 digits that 64 bits hold.
-use Rattle.std.specs.Prelude.{ℕ, ◌&&◌, List, [], ◌∷◌, length, leb}
-use Rattle.fixed.specs.Words.{if◌then◌else◌}
+use Rattle.std.specs.Prelude.{if◌then◌else◌, ℕ, ◌&&◌, List, [], ◌∷◌, length, leb}
 use Rattle.fixed.specs.Rules.{curvature_number, alpha_of, weight_number}
 use Rattle.text.specs.Numeral.{number_of}
 use Rattle.text.specs.Pieces.{words}

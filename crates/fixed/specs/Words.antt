@@ -1,7 +1,0 @@
--- Words that the rules are written in.
-use Rattle.std.specs.Prelude.{Bool, true, false}
-
-infixr 5 if◌then◌else◌
-abbrev pub if◌then◌else◌ : {A : Type 0} → Bool → A → A → A
-if true then a else b = a
-if false then a else b = b
