@@ -3,7 +3,7 @@
 // which refuse what is out of range; a crate that calls these has proved that it is not.
 ghost use Rattle.std.specs.Prelude.{◌≡◌, true, ◌-◌, ◌*◌, ◌≤◌, max};
 ghost use Rattle.fixed.specs.Rules.{scale, floor, in_range};
-ghost use Rattle.fixed.specs.Unsigned.{raised as raisedOf, lowered as loweredOf, raised_curvature, edge_weight, cut};
+ghost use Rattle.fixed.specs.Unsigned.{raised as raised_of, lowered as lowered_of, raised_curvature, edge_weight, cut};
 
 use crate::FixedPoint;
 
@@ -15,7 +15,7 @@ const FLOOR: u32 = FixedPoint::FLOOR as u32;
 // The curvature with 65,536 added.
 pub fn raised(curvature: FixedPoint) -> u32
     requires { in_range curvature.0 ≡ true }
-    ensures { result ≡ raisedOf curvature.0 }
+    ensures { result ≡ raised_of curvature.0 }
 {
     (curvature.0 + FixedPoint::SCALE) as u32
 }
@@ -23,7 +23,7 @@ pub fn raised(curvature: FixedPoint) -> u32
 // The curvature that a raised one stands for.
 pub fn lowered(curvature: u32) -> FixedPoint
     requires { curvature ≤ 2 * scale }
-    ensures { result.0 ≡ loweredOf curvature }
+    ensures { result.0 ≡ lowered_of curvature }
 {
     let number = curvature as i32 - FixedPoint::SCALE;
     FixedPoint(number)

@@ -8,7 +8,7 @@ ghost use Rattle.std.specs.Prelude.{◌≡◌, ◌<◌, length};
 ghost use Rattle.std.proofs.lemmas.List.Edits.{sets};
 ghost use Rattle.keccak.specs.Fips202.{listed};
 ghost use Rattle.keccak.specs.Lanes.{lane, turned, rotation, parity, effects, brought, mixed, round_of, constant_of, veiled, permuted};
-ghost use Rattle.keccak.specs.Lanes.{moved as Lanes·moved};
+ghost use Rattle.keccak.specs.Lanes.{moved as lanes_moved};
 
 // How far ρ turns each lane. One computed test holds the list to the walk of FIPS 202, Algorithm 2 (proofs/rotations).
 const ROTATIONS: [u64; 25] = [
@@ -93,7 +93,7 @@ fn from_columns(a: &[u64; 25]) -> [u64; 5]
 // θ and ρ of one lane; π is where the planes below read it from.
 fn moved(a: &[u64; 25], d: [u64; 5], i: usize) -> u64
     requires { (i < 25) × (length a.now ≡ 25) }
-    ensures { result ≡ Lanes·moved (lane a.now) (lane d) i }
+    ensures { result ≡ lanes_moved (lane a.now) (lane d) i }
 {
     let n = rotations();
     rotate(a[i] ^ d[i % 5], n[i])
