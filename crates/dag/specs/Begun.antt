@@ -1,4 +1,4 @@
--- What is known once a call's ids are named and the mark is cleared: enough for the steps after it.
+-- What the steps of a call ask of the parts that they read or write. That naming leaves it so stands in proofs/Begun.
 use Rattle.std.specs.Prelude.{ℕ, ◌+◌, ◌≤◌, ◌<◌, ◌≡◌, List, length, get_or}
 use Rattle.store.specs.Limits.{name_limit, parent_limit, child_limit, null_limit, head_length, keys_length, rests_length}
 use Rattle.store.specs.Tables.{Store}

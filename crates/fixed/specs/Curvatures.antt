@@ -1,4 +1,4 @@
--- Laws of curvatures: the raised form is the same number, and what is served is in range.
+-- Laws of curvatures: the raised form is the same number; of two counts it is in range (proofs/Curvatures goes on from there).
 use Rattle.std.specs.Prelude.{ℕ, suc, ◌+◌, ◌-◌, ◌*◌, ◌/◌, ◌≤◌, ◌<◌, ◌≡◌, true, ℤ, pos, negsuc, ◌+ℤ◌, ◌≤ℤ◌}
 use Rattle.std.proofs.Common.{ap, arith, mul-le-mul_right, add_comm, lt-ltb, le-ltb, eq-eqb, ne_eqb, le-leb, leb-true, leb→le}
 use Rattle.std.proofs.Math.Decide.{dec_lt, ℕ_discrete}

@@ -1,4 +1,4 @@
--- THE TABLE of worked numbers, and the one theorem that the rules give them.
+-- THE TABLE of worked numbers. That the rules give them is the one theorem over it (proofs/Table).
 use Rattle.std.specs.Prelude.{List, [], ◌∷◌, ℕ, ℤ, pos, neg_ℤ}
 use Rattle.fixed.specs.Answers.{Answer, served}
 use Rattle.fixed.specs.Rules.{product_of, alpha_of, curvature_of}

@@ -1,4 +1,5 @@
--- The loops of naming: one over the rows of the new names, one over the call's ids; and that what was located is what is named.
+-- The loops of naming: one over the rows of the new names, one over the call's ids. That what was located is what is named stands in
+-- proofs/NamedParts.
 use Prim.Native.Nat.{ℕ, zero, suc, ◌+◌, ◌≤◌, ◌<◌}
 use Rattle.std.specs.Prelude.{◌≡◌, Bool, false, length}
 use Rattle.std.proofs.Math.Path.{refl, sym, ap}

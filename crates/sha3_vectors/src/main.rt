@@ -5,7 +5,7 @@
 ghost use Rattle.std.specs.Prelude.{◌≡◌, ◌≤◌, length};
 
 use sha3::Hasher;
-use std::io::{self, BufWriter, Write};
+use std::io::{self, Write};
 
 fn show<W: Write>(out: &mut W, hash: [u8; 32]) -> io::Result<()> {
     for byte in hash {
@@ -98,8 +98,7 @@ fn around_blocks<W: Write>(out: &mut W) -> io::Result<()> {
 }
 
 fn main(rt: HostRuntime) -> io::Result<()> {
-    let mut out = BufWriter::new(rt.alloc(), rt.stdout())?;
-    let out = &mut out;
+    let out = &mut rt.stdout();
     example(out, "empty ", b"")?;
     example(out, "abc ", b"abc")?;
     example(
@@ -119,6 +118,5 @@ fn main(rt: HostRuntime) -> io::Result<()> {
     split_everywhere(out, 8)?;
     split_everywhere(out, 136)?;
     split_everywhere(out, 137)?;
-    split_everywhere(out, 300)?;
-    out.flush()
+    split_everywhere(out, 300)
 }

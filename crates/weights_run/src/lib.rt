@@ -1,4 +1,4 @@
-// The program `weights` whole: standard input in lines, an answer a line on standard output.
+// The program `weights` whole: what a reader gives in lines, an answer a line to a writer.
 #![tactic(auto)]
 
 mod lines;

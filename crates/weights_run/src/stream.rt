@@ -1,4 +1,4 @@
-// Standard input read in parts, and answered on standard output.
+// A reader's bytes taken in parts, and answered to a writer.
 //
 // What is written depends on the input alone, and not on how the reads part it: specs/Whole has the proof, over the step that each
 // read takes. Where a read or a write fails, the program stops.
