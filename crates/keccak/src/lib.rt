@@ -4,7 +4,7 @@
 // complemented, an `and` becomes an `or`. specs/Lanes has the rounds so, specs/Link that their bits are FIPS 202's.
 #![tactic(auto)]
 
-ghost use Rattle.std.specs.Prelude.{◌≡◌, ◌*◌, ◌<◌, length};
+ghost use Rattle.std.specs.Prelude.{◌≡◌, ◌*◌, ◌<◌};
 ghost use Rattle.std.proofs.lemmas.List.Edits.{sets};
 ghost use Rattle.keccak.specs.Fips202.{listed};
 ghost use Rattle.keccak.specs.Lanes.{lane, rotation, parity, effects, mix, brought, mixed, round_of, constant_of, veiled, permuted};
@@ -57,7 +57,7 @@ fn round_constants() -> [u64; 24]
 
 // θ: the parity of a column of lanes.
 fn column(a: &[u64; 25], x: usize) -> u64
-    requires { (x < 5) × (length a.now ≡ 25) }
+    requires { x < 5 }
     ensures { result ≡ parity (lane a.now) x }
 {
     a[x] ^ a[x + 5] ^ a[x + 10] ^ a[x + 15] ^ a[x + 20]
@@ -65,7 +65,6 @@ fn column(a: &[u64; 25], x: usize) -> u64
 
 // θ: what each lane of a sheet gets from the two columns beside it.
 fn from_columns(a: &[u64; 25]) -> [u64; 5]
-    requires { length a.now ≡ 25 }
     ensures { result ≡ effects a.now }
 {
     let mut c = [0u64; 5];
@@ -81,11 +80,10 @@ fn from_columns(a: &[u64; 25]) -> [u64; 5]
 
 // θ and ρ of one lane; π is where `plane` reads it from.
 fn moved(a: &[u64; 25], d: [u64; 5], i: usize) -> u64
-    requires { (i < 25) × (length a.now ≡ 25) }
+    requires { i < 25 }
     ensures { result ≡ lanes_moved (lane a.now) (lane d) i }
 {
-    let n = rotations();
-    (a[i] ^ d[i % 5]).rotate_left(n[i])
+    (a[i] ^ d[i % 5]).rotate_left(rotations()[i])
 }
 
 // χ of the lane b and the next two of its row, c and e, in the forms that it has where the veil leaves some of the three
@@ -128,12 +126,11 @@ impl Form {
     }
 }
 
-// π and χ of the plane Y. A constant, so that LLVM unrolls the loops and decides the forms: with Y a variable, a round takes
-// several times as long. A round in one function is more than the prover takes.
+// π and χ of the plane Y. It is a constant so that LLVM unrolls the loops and decides the forms: a loop over the planes takes
+// eight times as long.
 fn plane<const Y: usize>(a: &[u64; 25], d: [u64; 5], e: &mut [u64; 25])
-    requires { (Y < 5) × (length a.now ≡ 25) × (length e.old ≡ 25) }
-    ensures lanes { e.new ≡ sets e.old (5 * Y) (listed 5 (5 * Y) (mixed (brought (lane a.now) (lane d)))) }
-    ensures long { length e.new ≡ 25 }
+    requires { Y < 5 }
+    ensures { e.new ≡ sets e.old (5 * Y) (listed 5 (5 * Y) (mixed (brought (lane a.now) (lane d)))) }
 {
     let mut b = [0u64; 5];
     for x in 0..5 {
@@ -146,7 +143,6 @@ fn plane<const Y: usize>(a: &[u64; 25], d: [u64; 5], e: &mut [u64; 25])
 
 // One round from a to e. Two arrays by turns, so that no lane is copied.
 fn round(a: &[u64; 25], e: &mut [u64; 25], constant: u64)
-    requires { (length a.now ≡ 25) × (length e.old ≡ 25) }
     ensures { e.new ≡ round_of constant a.now }
 {
     let d = from_columns(a);

@@ -1,3 +1,4 @@
+-- The parities are all known before the first effect.
 use Rattle.std.proofs.Common.{arith, refl}
 use Rattle.keccak.specs.Lanes.{lane, parity, effect, effects}
 use Rattle.keccak.proofs.Row.{one_more, five, effect_at}

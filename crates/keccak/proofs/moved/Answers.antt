@@ -22,5 +22,5 @@ small i = mod-lt (offset (i % 5) (i / 5)) (lit< tt)
 pub returns : goal.returns
 unfolding moved
 returns c =
-    let e = entry c.rotations-n.result c.args.i c.rotations-n.ensures c.requires.0 in
+    let e = entry c.rotations.result c.args.i c.rotations.ensures c.requires in
     c.rotate_left.ensures ∙ ap (rotate_left w64 _) e ∙ turned_by _ _ (small c.args.i)

@@ -29,34 +29,25 @@ one_more : (a s t : List ℕ) (i k : ℕ) → s ≡ rounds_of i a → k ≡ cons
 unfolding rounds_of
 one_more a s t i k es ek et = et ∙ ap₂ round_of ek es
 
-long : (s r : List ℕ) (k : ℕ) → r ≡ round_of k s → length r ≡ 25
-unfolding round_of
-long s r k e = ap length e
-
-veiled_long : (s r : List ℕ) → r ≡ veiled s → length r ≡ 25
-unfolding veiled
-veiled_long s r e = ap length e
-
 pub loop-pair-init : goal.loop-pair-init
 unfolding rounds_of
-loop-pair-init c = (veiled_long _ _ c.veil-s.ensures, refl, refl)
+loop-pair-init c = refl
 
 pub loop-pair-preserved : goal.loop-pair-preserved
 loop-pair-preserved c =
-    let inv = c.loop-pair.invariant in
     let k = c.loop-pair.pair-index in
     let v = c.veil-s.result in
     let at : (j i : ℕ) → j < 2 → 2 * k + j ≡ i → get_or (get_or c.as_chunks.result.0.now k []) j 0 ≡ constant_of i = λ j i.
     entry c.round_constants-constants.result c.as_chunks.result.0.now k j i c.round_constants-constants.ensures c.as_chunks.ensures.front (omega arith)
     in
-    let first = one_more v _ _ (2 * k) _ inv.2 (at 0 (2 * k) (lit< tt) (omega arith)) c.round.ensures in
+    let first = one_more v _ _ (2 * k) _ c.loop-pair.invariant (at 0 (2 * k) (lit< tt) (omega arith)) c.round.ensures in
     let second = one_more v _ _ (suc (2 * k)) _ first (at 1 (suc (2 * k)) (lit< tt) (omega arith)) c.round-in-loop-pair.ensures in
     let e : suc (suc (2 * k)) ≡ 2 * (k + 1) = omega arith in
-    (c.round-in-loop-pair.array_long, c.round.array_long, second ∙ ap (λ (n : ℕ). rounds_of n v) e)
+    second ∙ ap (λ (n : ℕ). rounds_of n v) e
 
 pub returns : goal.returns
 unfolding permuted
 returns c =
     let k = c.loop-pair.pair-index in
     let e : 2 * k ≡ 24 = omega arith in
-    c.veil.ensures ∙ ap veiled (c.loop-pair.invariant.2 ∙ ap₂ rounds_of e c.veil-s.ensures)
+    c.veil.ensures ∙ ap veiled (c.loop-pair.invariant ∙ ap₂ rounds_of e c.veil-s.ensures)
