@@ -1,6 +1,6 @@
 -- The lanes that a loop stores one after the other: those of a plane, and the planes of a state.
 use mathlib.Core.Path.{◌≡◌, refl, sym, ap, ◌∙◌}
-use mathlib.Core.List.{List, [], ◌∷◌}
+use mathlib.Core.List.{List, []}
 use Prim.Native.Nat.{ℕ, zero, suc, ◌+◌, ◌-◌, ◌*◌, ◌/◌, ◌%◌, ◌^◌, ◌<◌}
 use native.Mathlib.Omega.{arith}
 use native.Mathlib.Nat.{mod-lt}
@@ -17,12 +17,16 @@ use Rattle.keccak.specs.Fips202.{listed}
 use Rattle.keccak.specs.Lanes.{Lanes, lane, turned, parity, effect, effects, moved, brought, mix, form, along, mixed, iota, round_of}
 use Rattle.keccak.specs.Strings.{listed_at, listed_length}
 
+-- a list of f's values read at i
+pub entry : (n i : ℕ) (l : List ℕ) (f : Lanes) → l ≡ listed n 0 f → i < n → get_or l i 0 ≡ f i
+entry n i l f e h = ap (λ (s : List ℕ). get_or s i 0) e ∙ listed_at n i f h
+
 -- a list filled from a on, and one place more
-filled : (n a : ℕ) (s : List ℕ) (f : Lanes) → set (sets s a (listed n a f)) (a + n) (f (a + n)) ≡ sets s a (listed (suc n) a f)
-filled zero a s f = ap (λ (i : ℕ). set s i (f i)) (add-zero a)
-filled (suc n) a s f =
+set_next : (n a : ℕ) (s : List ℕ) (f : Lanes) → set (sets s a (listed n a f)) (a + n) (f (a + n)) ≡ sets s a (listed (suc n) a f)
+set_next zero a s f = ap (λ (i : ℕ). set s i (f i)) (add-zero a)
+set_next (suc n) a s f =
     let e : a + suc n ≡ suc a + n = omega arith in
-    ap (λ (i : ℕ). set (sets s a (listed (suc n) a f)) i (f i)) e ∙ filled n (suc a) (set s a (f a)) f
+    ap (λ (i : ℕ). set (sets s a (listed (suc n) a f)) i (f i)) e ∙ set_next n (suc a) (set s a (f a)) f
 
 -- l is s with n of f's values from place a on
 abbrev pub Filled : List ℕ → ℕ → ℕ → Lanes → List ℕ → Type 0
@@ -31,13 +35,9 @@ Filled s a n f l = (length l ≡ length s) × (l ≡ sets s a (listed n a f))
 pub one_more : (s l : List ℕ) (a n i v : ℕ) (f : Lanes) → Filled s a n f l → i ≡ a + n → v ≡ f i → Filled s a (n + 1) f (set l i v)
 one_more s l a n i v f h ei ev = (
   length-set l i v ∙ h.0,
-  (λ j. set (h.1 j) i (ev j)) ∙ ap (λ (k : ℕ). set (sets s a (listed n a f)) k (f k)) ei ∙ filled n a s f
+  (λ j. set (h.1 j) i (ev j)) ∙ ap (λ (k : ℕ). set (sets s a (listed n a f)) k (f k)) ei ∙ set_next n a s f
       ∙ ap (λ (k : ℕ). sets s a (listed k a f)) (sym (add-one n)),
 )
-
--- five of them, from 0 on
-pub five : (l : List ℕ) (n : ℕ) (f : Lanes) → Filled (0 ∷ 0 ∷ 0 ∷ 0 ∷ 0 ∷ []) 0 n f l → n ≡ 5 → l ≡ listed 5 0 f
-five l n f h e = h.1 ∙ ap (λ (k : ℕ). sets (0 ∷ 0 ∷ 0 ∷ 0 ∷ 0 ∷ []) 0 (listed k 0 f)) e
 
 -- the library's turn
 pub turned_by : (v n : ℕ) → n < 64 → rotate_left w64 v n ≡ turned v n
@@ -49,7 +49,7 @@ pub effect_at : (a : Lanes) (c : List ℕ) (x r : ℕ) → c ≡ listed 5 0 (par
     → bit_xor (get_or c ((x + 4) % 5) 0) r ≡ effect a x
 unfolding effect
 effect_at a c x r ec er =
-    let m : (k : ℕ) → get_or c (k % 5) 0 ≡ parity a (k % 5) = λ k. ap (λ (l : List ℕ). get_or l (k % 5) 0) ec ∙ listed_at 5 (k % 5) (parity a) (mod-lt k (lit< tt)) in
+    let m : (k : ℕ) → get_or c (k % 5) 0 ≡ parity a (k % 5) = λ k. entry 5 (k % 5) c (parity a) ec (mod-lt k (lit< tt)) in
     λ j. bit_xor (m (x + 4) j) ((er ∙ turned_by _ 1 (lit< tt) ∙ ap (λ (v : ℕ). turned v 1) (m (x + 1))) j)
 
 -- π: where the lane at x of row y comes from
@@ -89,7 +89,7 @@ pub mixed_at : (b : Lanes) (l : List ℕ) (k : Form) (y x : ℕ) → x < 5 → l
     → mix k (get_or l x 0) (get_or l ((x + 1) % 5) 0) (get_or l ((x + 2) % 5) 0) ≡ mixed b (5 * y + x)
 unfolding mixed
 mixed_at b l k y x h el ek =
-    let m : (i : ℕ) → i < 5 → get_or l i 0 ≡ b (5 * y + i) = λ i hi. ap (λ (s : List ℕ). get_or s i 0) el ∙ listed_at 5 i (λ x. b (5 * y + x)) hi in
+    let m : (i : ℕ) → i < 5 → get_or l i 0 ≡ b (5 * y + i) = λ i. entry 5 i l (λ x. b (5 * y + x)) el in
     let n : (k : ℕ) → get_or l ((x + k) % 5) 0 ≡ b (along (5 * y + x) k) = λ k. m ((x + k) % 5) (mod-lt (x + k) (lit< tt)) ∙ ap b (sym (on y x k h)) in
     λ j. mix (ek j) (m x h j) (n 1 j) (n 2 j)
 
@@ -110,10 +110,5 @@ pub whole : (a d e e₀ e₁ e₂ e₃ e₄ : List ℕ) (k : ℕ) → length e �
 unfolding round_of
 whole a d e e₀ e₁ e₂ e₃ e₄ k l ed p₀ p₁ p₂ p₃ p₄ =
     let f : Lanes = mixed (brought (lane a) (lane d)) in
-    let all : e₄ ≡ listed 25 0 f =
-    p₄
-    ∙ ap (λ (x : List ℕ). sets x 20 (listed 5 20 f))
-    (p₃ ∙ ap (λ (x : List ℕ). sets x 15 (listed 5 15 f)) (p₂ ∙ ap (λ (x : List ℕ). sets x 10 (listed 5 10 f)) (p₁ ∙ ap (λ (x : List ℕ). sets x 5 (listed 5 5 f)) p₀)))
-    ∙ stored e f l
-    in
+    let all : e₄ ≡ listed 25 0 f = let s = stored e f l in cc in
     ap (λ (x : List ℕ). set x 0 (bit_xor (lane x 0) k)) all ∙ ap (λ (x : List ℕ). listed 25 0 (iota k (mixed (brought (lane a) (lane x))))) ed

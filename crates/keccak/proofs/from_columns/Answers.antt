@@ -1,14 +1,11 @@
 -- The parities are all known before the first effect.
-use Rattle.std.proofs.Common.{arith, refl}
+use Rattle.std.proofs.Common.{arith, rules}
 use Rattle.keccak.specs.Lanes.{lane, parity, effect, effects}
-use Rattle.keccak.proofs.Row.{one_more, five, effect_at}
+use Rattle.keccak.proofs.Row.{one_more, effect_at}
 use Rattle.keccak.proofs.from_columns.Goals as goal
 
 pub loop-x-preserved : goal.loop-x-preserved
 loop-x-preserved c = one_more _ _ 0 c.loop-x.x c.loop-x.x _ (parity (lane c.args.a.now)) c.loop-x.invariant (omega arith) c.column.ensures
-
-pub loop-x-2-init : goal.loop-x-2-init
-loop-x-2-init c = (five _ c.loop-x.x _ c.loop-x.invariant (omega arith), (refl, refl))
 
 pub loop-x-2-preserved : goal.loop-x-2-preserved
 loop-x-2-preserved c =
@@ -18,4 +15,4 @@ loop-x-2-preserved c =
 
 pub returns : goal.returns
 unfolding effects
-returns c = five _ c.loop-x-2.x _ c.loop-x-2.invariant.1 (omega arith)
+returns c = search rules
