@@ -1,11 +1,12 @@
 -- The single bits of what the machine's operations give.
 use Rattle.std.specs.Prelude.{◌≡◌, ◌⊎◌, ℕ, zero, suc, ◌+◌, ◌-◌, ◌*◌, ◌/◌, ◌%◌, ◌^◌, ◌≤◌, ◌<◌, min, max}
-use Rattle.std.proofs.Common.{sym, ap, ap₂, ◌∙◌, subst, inl, inr, ⊎_elim, not-suc-le-zero, le_of_suc-le-suc, mod-lt, eq-zero-or-pos, pow-suc, add_comm, add-zero, add_assoc, eq-or-lt_of_le, lt_of_lt_of_le, arith, lit<, pow_pos, pow_mono, shr-shr, shr_lt}
-use Rattle.std.proofs.Math.Nat.{mul-mod_left, zero-div, div-eq_of_lt}
-use Rattle.std.proofs.Math.Arith.{digits_mod}
-use Rattle.std.proofs.Math.Pow.{high, low, mod-mod-pow, field}
-use Rattle.std.proofs.lemmas.Nat.{shr_le, mod-pow-add, shl-shr, xor_shr, or_shr, and_shr, or_shifted, or_lt}
-use Rattle.std.specs.Int.Bits.{bit_xor, bit_and, bit_or, differ, xor_step, and_step, or_step, xor_zero_l, or_self}
+use Rattle.std.proofs.Common.{sym, ap, ap₂, ◌∙◌, subst, inl, inr, ⊎_elim, not-suc-le-zero, le_of_suc-le-suc, mod-lt, eq-zero-or-pos, pow-suc, add_comm, add-zero, add_assoc, eq-or-lt_of_le, arith, pow_pos, shr-shr, shr_lt}
+use Rattle.std.proofs.Math.Nat.{mul-mod_left}
+use Rattle.std.proofs.Math.Pow.{mod-mod-pow, field}
+use Rattle.std.proofs.lemmas.Nat.{shr_le, mod-pow-add, shl-shr, or_shifted, or_lt}
+use Rattle.std.specs.Int.Bits.{bit_xor, bit_and, bit_or, or_self}
+use Rattle.std.specs.Int.Bits.{xor_assoc as xor_groups}
+use Rattle.std.proofs.lemmas.Nat.Bits.{bit_at-lt, bit_at-suc, bit_at-zero, bit_at_xor, bit_at_and, bit_at_or, bit_at_above, bit_at_cat_low, bit_at_cat_high, same_from_bits_below}
 use Rattle.keccak.specs.Fips202.{◌⊕◌, bit}
 use Rattle.keccak.specs.Each.{agree}
 use Rattle.keccak.specs.Lanes.{turned}
@@ -18,11 +19,7 @@ equal_or_not a b =
     ⊎_elim (λ (h : a < b). inr (λ (e : a ≡ b). omega arith))
     (λ (h : b ≤ a). ⊎_elim (λ (e : b ≡ a). inl (sym e)) (λ (l : b < a). inr (λ (e : a ≡ b). omega arith)) (eq-or-lt_of_le h)) (below_or_not a b)
 
--- ⊕ and · of two bits
-odd : (a : ℕ) → a % 2 < 2
-odd a = mod-lt a (lit< tt)
-
--- a sum's parity, however it is bracketed
+-- ⊕ and · of two bits: a sum's parity, however it is bracketed
 sum_left : (p q r : ℕ) → (p ⊕ q) ⊕ r ≡ (p + q + r) % 2
 sum_left p q r = omega arith
 
@@ -47,79 +44,26 @@ plus_zero v = omega arith
 pub zero_plus : (v : ℕ) → 0 ⊕ v % 2 ≡ v % 2
 zero_plus v = omega arith
 
-differ_is : (x y : ℕ) → x < 2 → y < 2 → differ x y ≡ x ⊕ y
-differ_is = agree 2 2 differ ◌⊕◌ tt
-
 min_is : (x y : ℕ) → x < 2 → y < 2 → min x y ≡ x * y
 min_is = agree 2 2 min ◌*◌ tt
 
-max_lt : (x y : ℕ) → x < 2 → y < 2 → max x y < 2
-max_lt x y hx hy = omega arith
-
-product_lt : (x y : ℕ) → x < 2 → y < 2 → x * y < 2
-product_lt x y hx hy = subst (λ (n : ℕ). n < 2) (min_is x y hx hy) (omega arith)
-
-xor_odd : (a b : ℕ) → bit_xor a b % 2 ≡ a % 2 ⊕ b % 2
-xor_odd a b =
-    ap (λ (n : ℕ). n % 2) (xor_step a b)
-    ∙ ap (λ (d : ℕ). (bit_xor (a / 2) (b / 2) * 2 + d) % 2) (differ_is (a % 2) (b % 2) (odd a) (odd b))
-    ∙ digits_mod (bit_xor (a / 2) (b / 2)) (odd (a % 2 + b % 2))
-
-and_odd : (a b : ℕ) → bit_and a b % 2 ≡ a % 2 * (b % 2)
-and_odd a b =
-    ap (λ (n : ℕ). n % 2) (and_step a b)
-    ∙ ap (λ (d : ℕ). (bit_and (a / 2) (b / 2) * 2 + d) % 2) (min_is (a % 2) (b % 2) (odd a) (odd b))
-    ∙ digits_mod (bit_and (a / 2) (b / 2)) (product_lt (a % 2) (b % 2) (odd a) (odd b))
-
-or_odd : (a b : ℕ) → bit_or a b % 2 ≡ max (a % 2) (b % 2)
-or_odd a b = ap (λ (n : ℕ). n % 2) (or_step a b) ∙ digits_mod (bit_or (a / 2) (b / 2)) (max_lt (a % 2) (b % 2) (odd a) (odd b))
-
-xor_by_bits : (a b : ℕ) → bit_xor a b ≡ bit_xor (a / 2) (b / 2) * 2 + (a % 2 ⊕ b % 2)
-xor_by_bits a b =
-    xor_step a b ∙ ap (λ (d : ℕ). bit_xor (a / 2) (b / 2) * 2 + d) (differ_is (a % 2) (b % 2) (odd a) (odd b))
-
-xor_assoc_to : (k a b c : ℕ) → a < 2 ^ k → bit_xor (bit_xor a b) c ≡ bit_xor a (bit_xor b c)
-xor_assoc_to zero a b c h =
-    let e : a ≡ 0 = omega arith in
-    ap (λ (x : ℕ). bit_xor (bit_xor x b) c) e ∙ ap (λ (x : ℕ). bit_xor x c) (xor_zero_l b)
-    ∙ sym (ap (λ (x : ℕ). bit_xor x (bit_xor b c)) e ∙ xor_zero_l (bit_xor b c))
-xor_assoc_to (suc k) a b c h =
-    xor_by_bits (bit_xor a b) c
-    ∙ ap₂ (λ (p q : ℕ). bit_xor p (c / 2) * 2 + (q ⊕ c % 2)) (xor_shr a b 1) (xor_odd a b)
-    ∙ ap₂ (λ (p q : ℕ). p * 2 + q) (xor_assoc_to k (a / 2) (b / 2) (c / 2) (omega (arith, pow-suc 2 k))) (plus_assoc (a % 2) (b % 2) (c % 2))
-    ∙ sym (xor_by_bits a (bit_xor b c) ∙ ap₂ (λ (p q : ℕ). bit_xor (a / 2) p * 2 + (a % 2 ⊕ q)) (xor_shr b c 1) (xor_odd b c))
-
-below_pow : (n : ℕ) → n < 2 ^ n
-below_pow zero = lit< tt
-below_pow (suc n) = omega (arith, below_pow n, pow-suc 2 n)
-
 pub xor_assoc : (a b c : ℕ) → bit_xor (bit_xor a b) c ≡ bit_xor a (bit_xor b c)
-xor_assoc a b c = xor_assoc_to a a b c (below_pow a)
+xor_assoc = xor_groups
 
 pub xor_bit : (a b i : ℕ) → bit (bit_xor a b) i ≡ bit a i ⊕ bit b i
-xor_bit a b i = ap (λ (n : ℕ). n % 2) (xor_shr a b i) ∙ xor_odd (a / 2 ^ i) (b / 2 ^ i)
+xor_bit = bit_at_xor
 
 pub and_bit : (a b i : ℕ) → bit (bit_and a b) i ≡ bit a i * bit b i
-and_bit a b i = ap (λ (n : ℕ). n % 2) (and_shr a b i) ∙ and_odd (a / 2 ^ i) (b / 2 ^ i)
+and_bit a b i = bit_at_and a b i ∙ min_is (bit a i) (bit b i) (bit_at-lt a i) (bit_at-lt b i)
 
 pub or_bit : (a b i : ℕ) → bit (bit_or a b) i ≡ max (bit a i) (bit b i)
-or_bit a b i = ap (λ (n : ℕ). n % 2) (or_shr a b i) ∙ or_odd (a / 2 ^ i) (b / 2 ^ i)
-
--- the complement in k bits
-half_bit : (a i : ℕ) → bit a (suc i) ≡ bit (a / 2) i
-half_bit a i = ap (λ (n : ℕ). n % 2) (sym (shr-shr a 1 i ∙ ap (λ (n : ℕ). a / 2 ^ n) (omega arith)))
+or_bit = bit_at_or
 
 -- numbers with the same bits are equal
 pub same_bits : (k a b : ℕ) → a < 2 ^ k → b < 2 ^ k → ((i : ℕ) → i < k → bit a i ≡ bit b i) → a ≡ b
-same_bits zero a b ha hb e = omega arith
-same_bits (suc k) a b ha hb e =
-    let high : a / 2 ≡ b / 2 =
-    same_bits k (a / 2) (b / 2) (omega (arith, pow-suc 2 k)) (omega (arith, pow-suc 2 k))
-    (λ i h. sym (half_bit a i) ∙ e (suc i) (omega arith) ∙ half_bit b i)
-    in
-    let low : bit a 0 ≡ bit b 0 = e 0 (omega arith) in
-    omega arith
+same_bits = same_from_bits_below
 
+-- the complement in k bits
 not_half : (a k : ℕ) → a < 2 ^ suc k → ((2 ^ suc k - 1) - a) / 2 ≡ (2 ^ k - 1) - a / 2
 not_half a k h = omega (arith, pow-suc 2 k, pow_pos k)
 
@@ -127,10 +71,10 @@ pub not_bit : (i k a : ℕ) → i < k → a < 2 ^ k → bit ((2 ^ k - 1) - a) i 
 not_bit i zero a h f = absurd (not-suc-le-zero h)
 not_bit zero (suc k) a h f = omega (arith, pow-suc 2 k, pow_pos k)
 not_bit (suc i) (suc k) a h f =
-    half_bit ((2 ^ suc k - 1) - a) i
+    bit_at-suc ((2 ^ suc k - 1) - a) i
     ∙ ap (λ (n : ℕ). bit n i) (not_half a k f)
     ∙ not_bit i k (a / 2) (le_of_suc-le-suc h) (omega (arith, pow-suc 2 k))
-    ∙ ap (λ (n : ℕ). n ⊕ 1) (sym (half_bit a i))
+    ∙ ap (λ (n : ℕ). n ⊕ 1) (sym (bit_at-suc a i))
 
 -- the low j bits of a number
 pub low_bit : (x i j : ℕ) → i < j → bit (x % 2 ^ j) i ≡ bit x i
@@ -145,10 +89,10 @@ low_bit x i j h =
 -- a number put n places up, with another below it
 module _ (x y n : ℕ) (small : y < 2 ^ n) where
   pub under_bit : (i : ℕ) → i < n → bit (x * 2 ^ n + y) i ≡ bit y i
-  under_bit i h = sym (low_bit (x * 2 ^ n + y) i n h) ∙ ap (λ (v : ℕ). bit v i) (low x n small)
+  under_bit = bit_at_cat_low x n y
 
   pub over_bit : (i : ℕ) → bit (x * 2 ^ n + y) (n + i) ≡ bit x i
-  over_bit i = ap (λ (v : ℕ). v % 2) (sym (shr-shr (x * 2 ^ n + y) n i)) ∙ ap (λ (v : ℕ). bit v i) (high x n small)
+  over_bit i = bit_at_cat_high x n y (n + i) small (omega arith) ∙ ap (bit x) (omega arith)
 
 -- a lane of m + n bits turned by n places
 module _ (x n m : ℕ) (h : x < 2 ^ (m + n)) where
@@ -207,7 +151,7 @@ turned_lt v n h =
 
 -- bits that are not there
 pub zero_bit : (i : ℕ) → bit 0 i ≡ 0
-zero_bit i = ap (λ (v : ℕ). v % 2) (zero-div (2 ^ i))
+zero_bit = bit_at-zero
 
 pub high_bit : (v i : ℕ) → v < 2 ^ 8 → 8 ≤ i → bit v i ≡ 0
-high_bit v i h l = ap (λ (x : ℕ). x % 2) (div-eq_of_lt (lt_of_lt_of_le h (pow_mono l)))
+high_bit v i = bit_at_above v 8 i

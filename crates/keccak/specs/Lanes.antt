@@ -3,6 +3,8 @@
 -- (Keccak implementation overview, section 2.2, "lane complementing").
 use Rattle.std.specs.Prelude.{ℕ, zero, suc, ◌+◌, ◌-◌, ◌*◌, ◌/◌, ◌%◌, ◌^◌, List, [], ◌∷◌, get_or}
 use Rattle.std.specs.Int.Bits.{bit_xor, bit_and, bit_or}
+use Rattle.keccak.specs.declared.Form.{Form}
+use Rattle.keccak.specs.declared.Form.TheVariants.{And, Or, NotAnd, NotOr, OrNot, OtherAnd, OtherOr}
 use Rattle.keccak.specs.Fips202.{listed, offset, rc}
 
 -- which lane stands at i
@@ -44,33 +46,24 @@ unfoldable pub brought : Lanes → Lanes → Lanes
 brought a d i = moved a d (origin i)
 
 -- χ on the lane b and the next two of its row, c and e, in the forms that it has where some of the three are complemented
-pub data Form : Type 0 where
-  and : Form
-  or : Form
-  not_and : Form
-  not_or : Form
-  or_not : Form
-  other_and : Form
-  other_or : Form
-
 abbrev pub mix : Form → ℕ → ℕ → ℕ → ℕ
-mix and b c e = bit_xor b (bit_and c e)
-mix or b c e = bit_xor b (bit_or c e)
-mix not_and b c e = bit_xor b (bit_and (complement c) e)
-mix not_or b c e = bit_xor b (bit_or (complement c) e)
-mix or_not b c e = bit_xor b (bit_or c (complement e))
-mix other_and b c e = bit_xor (complement b) (bit_and c e)
-mix other_or b c e = bit_xor (complement b) (bit_or c e)
+mix And b c e = bit_xor b (bit_and c e)
+mix Or b c e = bit_xor b (bit_or c e)
+mix NotAnd b c e = bit_xor b (bit_and (complement c) e)
+mix NotOr b c e = bit_xor b (bit_or (complement c) e)
+mix OrNot b c e = bit_xor b (bit_or c (complement e))
+mix OtherAnd b c e = bit_xor (complement b) (bit_and c e)
+mix OtherOr b c e = bit_xor (complement b) (bit_or c e)
 
 abbrev pub form : ℕ → Form
 form i =
     get_or
-    (or ∷ not_or ∷ and ∷ or ∷ and
-    ∷ or ∷ and ∷ or_not ∷ or ∷ and
-    ∷ or ∷ and ∷ not_and ∷ other_or ∷ and
-    ∷ and ∷ or ∷ not_or ∷ other_and ∷ or
-    ∷ not_and ∷ other_or ∷ and ∷ or ∷ and ∷ [])
-    i and
+    (Or ∷ NotOr ∷ And ∷ Or ∷ And
+    ∷ Or ∷ And ∷ OrNot ∷ Or ∷ And
+    ∷ Or ∷ And ∷ NotAnd ∷ OtherOr ∷ And
+    ∷ And ∷ Or ∷ NotOr ∷ OtherAnd ∷ Or
+    ∷ NotAnd ∷ OtherOr ∷ And ∷ Or ∷ And ∷ [])
+    i And
 
 -- the lane k places on in the row of the lane at i
 abbrev pub along : ℕ → ℕ → ℕ

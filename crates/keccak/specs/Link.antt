@@ -7,7 +7,9 @@ use Rattle.std.specs.Int.Bits.{bit_and, bit_or, bit_xor, xor_lt, and_lt}
 use Rattle.std.proofs.lemmas.Nat.{or_lt}
 use Rattle.std.proofs.Math.Pow.{ones_sub-lt}
 use Rattle.keccak.specs.Fips202.{Bits, State, ◌⊕◌, listed, array, string, Lane, C, D, θ, ρ, π, χ, ι, RC, rc, offset, Rnd, rounds, keccak_p, bit, bits_by}
-use Rattle.keccak.specs.Lanes.{Lanes, lane, turned, complement, parity, effect, effects, rotation, moved, origin, brought, Form, and, or, not_and, not_or, or_not, other_and, other_or, mix, form, along, mixed, iota, round_of, constant_of, rounds_of, veil, under, veiled, permuted}
+use Rattle.keccak.specs.declared.Form.{Form}
+use Rattle.keccak.specs.declared.Form.TheVariants.{And, Or, NotAnd, NotOr, OrNot, OtherAnd, OtherOr}
+use Rattle.keccak.specs.Lanes.{Lanes, lane, turned, complement, parity, effect, effects, rotation, moved, origin, brought, mix, form, along, mixed, iota, round_of, constant_of, rounds_of, veil, under, veiled, permuted}
 use Rattle.keccak.specs.Each.{each_at, agree}
 use Rattle.keccak.specs.Strings.{listed_at, bits_by_at, joined, bits_by_joined, joined_same, listed_same}
 use Rattle.keccak.specs.Bit.{plus_assoc, plus_swap, plus_comm, plus_zero, xor_bit, and_bit, or_bit, not_bit, turned_bit, turned_lt}
@@ -134,32 +136,32 @@ brought_is f a A is =
 
 -- χ: each form, bit by bit
 abbrev mix_bit : Form → ℕ → ℕ → ℕ → ℕ
-mix_bit and b c e = b ⊕ c * e
-mix_bit or b c e = b ⊕ max c e
-mix_bit not_and b c e = b ⊕ (c ⊕ 1) * e
-mix_bit not_or b c e = b ⊕ max (c ⊕ 1) e
-mix_bit or_not b c e = b ⊕ max c (e ⊕ 1)
-mix_bit other_and b c e = (b ⊕ 1) ⊕ c * e
-mix_bit other_or b c e = (b ⊕ 1) ⊕ max c e
+mix_bit And b c e = b ⊕ c * e
+mix_bit Or b c e = b ⊕ max c e
+mix_bit NotAnd b c e = b ⊕ (c ⊕ 1) * e
+mix_bit NotOr b c e = b ⊕ max (c ⊕ 1) e
+mix_bit OrNot b c e = b ⊕ max c (e ⊕ 1)
+mix_bit OtherAnd b c e = (b ⊕ 1) ⊕ c * e
+mix_bit OtherOr b c e = (b ⊕ 1) ⊕ max c e
 
 module _ (b c e z : ℕ) (hb : b < 2 ^ 64) (hc : c < 2 ^ 64) (he : e < 2 ^ 64) (hz : z < 64) where
   mix_bit_lem : (k : Form) → bit (mix k b c e) z ≡ mix_bit k (bit b z) (bit c z) (bit e z)
-  mix_bit_lem and = xor_bit b (bit_and c e) z ∙ ap (λ (n : ℕ). bit b z ⊕ n) (and_bit c e z)
-  mix_bit_lem or = xor_bit b (bit_or c e) z ∙ ap (λ (n : ℕ). bit b z ⊕ n) (or_bit c e z)
-  mix_bit_lem not_and = xor_bit b (bit_and (complement c) e) z ∙ ap (λ (n : ℕ). bit b z ⊕ n) (and_bit (complement c) e z ∙ ap (λ (n : ℕ). n * bit e z) (not_bit z 64 c hz hc))
-  mix_bit_lem not_or = xor_bit b (bit_or (complement c) e) z ∙ ap (λ (n : ℕ). bit b z ⊕ n) (or_bit (complement c) e z ∙ ap (λ (n : ℕ). max n (bit e z)) (not_bit z 64 c hz hc))
-  mix_bit_lem or_not = xor_bit b (bit_or c (complement e)) z ∙ ap (λ (n : ℕ). bit b z ⊕ n) (or_bit c (complement e) z ∙ ap (max (bit c z)) (not_bit z 64 e hz he))
-  mix_bit_lem other_and = xor_bit (complement b) (bit_and c e) z ∙ ap₂ ◌⊕◌ (not_bit z 64 b hz hb) (and_bit c e z)
-  mix_bit_lem other_or = xor_bit (complement b) (bit_or c e) z ∙ ap₂ ◌⊕◌ (not_bit z 64 b hz hb) (or_bit c e z)
+  mix_bit_lem And = xor_bit b (bit_and c e) z ∙ ap (λ (n : ℕ). bit b z ⊕ n) (and_bit c e z)
+  mix_bit_lem Or = xor_bit b (bit_or c e) z ∙ ap (λ (n : ℕ). bit b z ⊕ n) (or_bit c e z)
+  mix_bit_lem NotAnd = xor_bit b (bit_and (complement c) e) z ∙ ap (λ (n : ℕ). bit b z ⊕ n) (and_bit (complement c) e z ∙ ap (λ (n : ℕ). n * bit e z) (not_bit z 64 c hz hc))
+  mix_bit_lem NotOr = xor_bit b (bit_or (complement c) e) z ∙ ap (λ (n : ℕ). bit b z ⊕ n) (or_bit (complement c) e z ∙ ap (λ (n : ℕ). max n (bit e z)) (not_bit z 64 c hz hc))
+  mix_bit_lem OrNot = xor_bit b (bit_or c (complement e)) z ∙ ap (λ (n : ℕ). bit b z ⊕ n) (or_bit c (complement e) z ∙ ap (max (bit c z)) (not_bit z 64 e hz he))
+  mix_bit_lem OtherAnd = xor_bit (complement b) (bit_and c e) z ∙ ap₂ ◌⊕◌ (not_bit z 64 b hz hb) (and_bit c e z)
+  mix_bit_lem OtherOr = xor_bit (complement b) (bit_or c e) z ∙ ap₂ ◌⊕◌ (not_bit z 64 b hz hb) (or_bit c e z)
 
   mix_lt : (k : Form) → mix k b c e < 2 ^ 64
-  mix_lt and = xor_lt 64 b (bit_and c e) hb (and_lt 64 c e hc he)
-  mix_lt or = xor_lt 64 b (bit_or c e) hb (or_lt 64 c e hc he)
-  mix_lt not_and = xor_lt 64 b (bit_and (complement c) e) hb (and_lt 64 (complement c) e (ones_sub-lt 64 c) he)
-  mix_lt not_or = xor_lt 64 b (bit_or (complement c) e) hb (or_lt 64 (complement c) e (ones_sub-lt 64 c) he)
-  mix_lt or_not = xor_lt 64 b (bit_or c (complement e)) hb (or_lt 64 c (complement e) hc (ones_sub-lt 64 e))
-  mix_lt other_and = xor_lt 64 (complement b) (bit_and c e) (ones_sub-lt 64 b) (and_lt 64 c e hc he)
-  mix_lt other_or = xor_lt 64 (complement b) (bit_or c e) (ones_sub-lt 64 b) (or_lt 64 c e hc he)
+  mix_lt And = xor_lt 64 b (bit_and c e) hb (and_lt 64 c e hc he)
+  mix_lt Or = xor_lt 64 b (bit_or c e) hb (or_lt 64 c e hc he)
+  mix_lt NotAnd = xor_lt 64 b (bit_and (complement c) e) hb (and_lt 64 (complement c) e (ones_sub-lt 64 c) he)
+  mix_lt NotOr = xor_lt 64 b (bit_or (complement c) e) hb (or_lt 64 (complement c) e (ones_sub-lt 64 c) he)
+  mix_lt OrNot = xor_lt 64 b (bit_or c (complement e)) hb (or_lt 64 c (complement e) hc (ones_sub-lt 64 e))
+  mix_lt OtherAnd = xor_lt 64 (complement b) (bit_and c e) (ones_sub-lt 64 b) (and_lt 64 c e hc he)
+  mix_lt OtherOr = xor_lt 64 (complement b) (bit_or c e) (ones_sub-lt 64 b) (or_lt 64 c e hc he)
 
 -- The form at each lane is right: one computed test, over the 25 lanes and the eight values n of three bits.
 form_right : (i n : ℕ) → i < 25 → n < 8

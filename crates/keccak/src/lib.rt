@@ -4,14 +4,14 @@
 // complemented, an `and` becomes an `or`. specs/Lanes has the rounds so, specs/Link that their bits are FIPS 202's.
 #![tactic(auto)]
 
-ghost use Rattle.std.specs.Prelude.{◌≡◌, ◌<◌, length};
+ghost use Rattle.std.specs.Prelude.{◌≡◌, ◌*◌, ◌<◌};
 ghost use Rattle.std.proofs.lemmas.List.Edits.{sets};
 ghost use Rattle.keccak.specs.Fips202.{listed};
-ghost use Rattle.keccak.specs.Lanes.{lane, turned, rotation, parity, effects, brought, mixed, round_of, constant_of, veiled, permuted};
+ghost use Rattle.keccak.specs.Lanes.{lane, rotation, parity, effects, mix, brought, mixed, round_of, constant_of, veiled, permuted};
 ghost use Rattle.keccak.specs.Lanes.{moved as lanes_moved};
 
 // How far ρ turns each lane. One computed test holds the list to the walk of FIPS 202, Algorithm 2 (proofs/rotations).
-const ROTATIONS: [u64; 25] = [
+const ROTATIONS: [u32; 25] = [
     0, 1, 62, 28, 27, 36, 44, 6, 55, 20, 3, 10, 43, 25, 39, 41, 45, 15, 21, 8, 18, 2, 61, 56, 14,
 ];
 
@@ -43,15 +43,7 @@ const ROUND_CONSTANTS: [u64; 24] = [
     0x8000_0000_8000_8008,
 ];
 
-// x turned by n places. A turn by 0 asks for no shift by the whole width.
-fn rotate(x: u64, n: u64) -> u64
-    requires { n < 64 }
-    ensures { result ≡ turned x n }
-{
-    (x << n) | (x >> ((64 - n) % 64))
-}
-
-fn rotations() -> [u64; 25]
+fn rotations() -> [u32; 25]
     ensures { result ≡ listed 25 0 rotation }
 {
     ROTATIONS
@@ -65,7 +57,7 @@ fn round_constants() -> [u64; 24]
 
 // θ: the parity of a column of lanes.
 fn column(a: &[u64; 25], x: usize) -> u64
-    requires { (x < 5) × (length a.now ≡ 25) }
+    requires { x < 5 }
     ensures { result ≡ parity (lane a.now) x }
 {
     a[x] ^ a[x + 5] ^ a[x + 10] ^ a[x + 15] ^ a[x + 20]
@@ -73,134 +65,96 @@ fn column(a: &[u64; 25], x: usize) -> u64
 
 // θ: what each lane of a sheet gets from the two columns beside it.
 fn from_columns(a: &[u64; 25]) -> [u64; 5]
-    requires { length a.now ≡ 25 }
     ensures { result ≡ effects a.now }
 {
-    let c0 = column(a, 0);
-    let c1 = column(a, 1);
-    let c2 = column(a, 2);
-    let c3 = column(a, 3);
-    let c4 = column(a, 4);
-    [
-        c4 ^ rotate(c1, 1),
-        c0 ^ rotate(c2, 1),
-        c1 ^ rotate(c3, 1),
-        c2 ^ rotate(c4, 1),
-        c3 ^ rotate(c0, 1),
-    ]
+    let mut c = [0u64; 5];
+    for x in 0..5 {
+        c[x] = column(a, x);
+    }
+    let mut d = [0u64; 5];
+    for x in 0..5 {
+        d[x] = c[(x + 4) % 5] ^ c[(x + 1) % 5].rotate_left(1);
+    }
+    d
 }
 
-// θ and ρ of one lane; π is where the planes below read it from.
+// θ and ρ of one lane; π is where `plane` reads it from.
 fn moved(a: &[u64; 25], d: [u64; 5], i: usize) -> u64
-    requires { (i < 25) × (length a.now ≡ 25) }
+    requires { i < 25 }
     ensures { result ≡ lanes_moved (lane a.now) (lane d) i }
 {
-    let n = rotations();
-    rotate(a[i] ^ d[i % 5], n[i])
+    (a[i] ^ d[i % 5]).rotate_left(rotations()[i])
 }
 
-// χ, a plane at a time, with the complements that the veil leaves. A plane has a function of its own: a round in one is more
-// than the prover takes.
-fn plane_0(a: &[u64; 25], d: [u64; 5], e: &mut [u64; 25])
-    requires { (length a.now ≡ 25) × (length e.old ≡ 25) }
-    ensures lanes { e.new ≡ sets e.old 0 (listed 5 0 (mixed (brought (lane a.now) (lane d)))) }
-    ensures long { length e.new ≡ 25 }
-{
-    let b0 = moved(a, d, 0);
-    let b1 = moved(a, d, 6);
-    let b2 = moved(a, d, 12);
-    let b3 = moved(a, d, 18);
-    let b4 = moved(a, d, 24);
-    e[0] = b0 ^ (b1 | b2);
-    e[1] = b1 ^ (!b2 | b3);
-    e[2] = b2 ^ (b3 & b4);
-    e[3] = b3 ^ (b4 | b0);
-    e[4] = b4 ^ (b0 & b1);
+// χ of the lane b and the next two of its row, c and e, in the forms that it has where the veil leaves some of the three
+// complemented.
+#[derive(Clone, Copy)]
+enum Form {
+    And,
+    Or,
+    NotAnd,
+    NotOr,
+    OrNot,
+    OtherAnd,
+    OtherOr,
 }
 
-fn plane_1(a: &[u64; 25], d: [u64; 5], e: &mut [u64; 25])
-    requires { (length a.now ≡ 25) × (length e.old ≡ 25) }
-    ensures lanes { e.new ≡ sets e.old 5 (listed 5 5 (mixed (brought (lane a.now) (lane d)))) }
-    ensures long { length e.new ≡ 25 }
-{
-    let b0 = moved(a, d, 3);
-    let b1 = moved(a, d, 9);
-    let b2 = moved(a, d, 10);
-    let b3 = moved(a, d, 16);
-    let b4 = moved(a, d, 22);
-    e[5] = b0 ^ (b1 | b2);
-    e[6] = b1 ^ (b2 & b3);
-    e[7] = b2 ^ (b3 | !b4);
-    e[8] = b3 ^ (b4 | b0);
-    e[9] = b4 ^ (b0 & b1);
+use Form::{And, NotAnd, NotOr, Or, OrNot, OtherAnd, OtherOr};
+
+// The form of each lane, a plane to a line.
+const FORMS: [[Form; 5]; 5] = [
+    [Or, NotOr, And, Or, And],
+    [Or, And, OrNot, Or, And],
+    [Or, And, NotAnd, OtherOr, And],
+    [And, Or, NotOr, OtherAnd, Or],
+    [NotAnd, OtherOr, And, Or, And],
+];
+
+impl Form {
+    fn mix(self, b: u64, c: u64, e: u64) -> u64
+        ensures { result ≡ mix self b c e }
+    {
+        match self {
+            And => b ^ (c & e),
+            Or => b ^ (c | e),
+            NotAnd => b ^ (!c & e),
+            NotOr => b ^ (!c | e),
+            OrNot => b ^ (c | !e),
+            OtherAnd => !b ^ (c & e),
+            OtherOr => !b ^ (c | e),
+        }
+    }
 }
 
-fn plane_2(a: &[u64; 25], d: [u64; 5], e: &mut [u64; 25])
-    requires { (length a.now ≡ 25) × (length e.old ≡ 25) }
-    ensures lanes { e.new ≡ sets e.old 10 (listed 5 10 (mixed (brought (lane a.now) (lane d)))) }
-    ensures long { length e.new ≡ 25 }
+// π and χ of the plane Y. It is a constant so that LLVM unrolls the loops and decides the forms: a loop over the planes takes
+// eight times as long.
+fn plane<const Y: usize>(a: &[u64; 25], d: [u64; 5], e: &mut [u64; 25])
+    requires { Y < 5 }
+    ensures { e.new ≡ sets e.old (5 * Y) (listed 5 (5 * Y) (mixed (brought (lane a.now) (lane d)))) }
 {
-    let b0 = moved(a, d, 1);
-    let b1 = moved(a, d, 7);
-    let b2 = moved(a, d, 13);
-    let b3 = moved(a, d, 19);
-    let b4 = moved(a, d, 20);
-    e[10] = b0 ^ (b1 | b2);
-    e[11] = b1 ^ (b2 & b3);
-    e[12] = b2 ^ (!b3 & b4);
-    e[13] = !b3 ^ (b4 | b0);
-    e[14] = b4 ^ (b0 & b1);
-}
-
-fn plane_3(a: &[u64; 25], d: [u64; 5], e: &mut [u64; 25])
-    requires { (length a.now ≡ 25) × (length e.old ≡ 25) }
-    ensures lanes { e.new ≡ sets e.old 15 (listed 5 15 (mixed (brought (lane a.now) (lane d)))) }
-    ensures long { length e.new ≡ 25 }
-{
-    let b0 = moved(a, d, 4);
-    let b1 = moved(a, d, 5);
-    let b2 = moved(a, d, 11);
-    let b3 = moved(a, d, 17);
-    let b4 = moved(a, d, 23);
-    e[15] = b0 ^ (b1 & b2);
-    e[16] = b1 ^ (b2 | b3);
-    e[17] = b2 ^ (!b3 | b4);
-    e[18] = !b3 ^ (b4 & b0);
-    e[19] = b4 ^ (b0 | b1);
-}
-
-fn plane_4(a: &[u64; 25], d: [u64; 5], e: &mut [u64; 25])
-    requires { (length a.now ≡ 25) × (length e.old ≡ 25) }
-    ensures lanes { e.new ≡ sets e.old 20 (listed 5 20 (mixed (brought (lane a.now) (lane d)))) }
-    ensures long { length e.new ≡ 25 }
-{
-    let b0 = moved(a, d, 2);
-    let b1 = moved(a, d, 8);
-    let b2 = moved(a, d, 14);
-    let b3 = moved(a, d, 15);
-    let b4 = moved(a, d, 21);
-    e[20] = b0 ^ (!b1 & b2);
-    e[21] = !b1 ^ (b2 | b3);
-    e[22] = b2 ^ (b3 & b4);
-    e[23] = b3 ^ (b4 | b0);
-    e[24] = b4 ^ (b0 & b1);
+    let mut b = [0u64; 5];
+    for x in 0..5 {
+        b[x] = moved(a, d, (x + 3 * Y) % 5 + 5 * x);
+    }
+    for x in 0..5 {
+        e[5 * Y + x] = FORMS[Y][x].mix(b[x], b[(x + 1) % 5], b[(x + 2) % 5]);
+    }
 }
 
 // One round from a to e. Two arrays by turns, so that no lane is copied.
 fn round(a: &[u64; 25], e: &mut [u64; 25], constant: u64)
-    requires { (length a.now ≡ 25) × (length e.old ≡ 25) }
     ensures { e.new ≡ round_of constant a.now }
 {
     let d = from_columns(a);
-    plane_0(a, d, e);
-    plane_1(a, d, e);
-    plane_2(a, d, e);
-    plane_3(a, d, e);
-    plane_4(a, d, e);
-    e[0] = e[0] ^ constant;
+    plane::<0>(a, d, e);
+    plane::<1>(a, d, e);
+    plane::<2>(a, d, e);
+    plane::<3>(a, d, e);
+    plane::<4>(a, d, e);
+    e[0] ^= constant;
 }
 
-// The six lanes complemented, or set right again.
+// The six lanes complemented, or set right again. A loop over the six makes a permutation two per cent slower.
 fn veil(a: [u64; 25]) -> [u64; 25]
     ensures { result ≡ veiled a }
 {
@@ -216,11 +170,10 @@ pub fn permute(a: [u64; 25]) -> [u64; 25]
     let mut s = veil(a);
     let mut t = [0u64; 25];
     let constants = round_constants();
-    let mut i = 0;
-    while i < 24 {
-        round(&s, &mut t, constants[i]);
-        round(&t, &mut s, constants[i + 1]);
-        i += 2;
+    let (pairs, _) = constants.as_chunks::<2>();
+    for pair in pairs {
+        round(&s, &mut t, pair[0]);
+        round(&t, &mut s, pair[1]);
     }
     veil(s)
 }

@@ -1,60 +1,50 @@
-use mathlib.Core.Path.{◌≡◌, refl, sym, ap, ap₂, ◌∙◌}
-use mathlib.Core.List.{List}
-use Prim.Native.Nat.{ℕ, ◌+◌, ◌<◌}
-use native.Mathlib.Numerals.{add-one}
+-- The constants by pairs are those of two rounds that follow one another.
+use mathlib.Core.Path.{◌≡◌, refl, ap, ap₂, ◌∙◌}
+use mathlib.Core.List.{List, []}
+use Prim.Native.Nat.{ℕ, zero, suc, ◌+◌, ◌*◌, ◌/◌, ◌<◌}
 use native.Mathlib.Omega.{arith}
-use lib.ListN.{length, get_or}
+use lib.Dec.{lit<}
+use lib.ListN.{length, get_or, drop}
+use Rattle.std.proofs.lemmas.List.{get_or-take, get_or-drop}
+use Rattle.std.specs.Simd.{first_chunks}
 use Rattle.keccak.specs.Fips202.{listed}
-use Rattle.keccak.specs.Lanes.{constant_of, round_of, rounds_of, veiled, permuted}
-use Rattle.keccak.specs.Strings.{listed_at}
+use Rattle.keccak.specs.Lanes.{constant_of, round_of, rounds_of, permuted}
+use Rattle.keccak.proofs.Row.{entry}
 use Rattle.keccak.proofs.permute.Goals as goal
 
-entry : (n : List ℕ) (i : ℕ) → n ≡ listed 24 0 constant_of → i < 24 → get_or n i 0 ≡ constant_of i
-entry n i e h = ap (λ (l : List ℕ). get_or l i 0) e ∙ listed_at 24 i constant_of h
+in_pair : (m k j : ℕ) (l : List ℕ) → k < m → j < 2 → get_or (get_or (first_chunks 2 m l) k []) j 0 ≡ get_or l (2 * k + j) 0
+in_pair zero k j l h i = absurd (omega arith)
+in_pair (suc m) zero j l h i = get_or-take 2 l j 0 i ∙ ap (λ (n : ℕ). get_or l n 0) (omega arith)
+in_pair (suc m) (suc k) j l h i =
+    in_pair m k j (drop 2 l) (omega arith) i ∙ get_or-drop 2 l (2 * k + j) 0 ∙ ap (λ (n : ℕ). get_or l n 0) (omega arith)
 
-one_more : (a s t : List ℕ) (i k : ℕ) → s ≡ rounds_of i a → k ≡ constant_of i → t ≡ round_of k s → t ≡ rounds_of (i + 1) a
+constant_at : (n : List ℕ) (p : List (List ℕ)) (k j i : ℕ) → n ≡ listed 24 0 constant_of → p ≡ first_chunks 2 (length n / 2) n → k < 12 → j < 2
+    → 2 * k + j ≡ i → get_or (get_or p k []) j 0 ≡ constant_of i
+constant_at n p k j i e f hk hj at =
+    let half : length n / 2 ≡ 12 = ap (λ (l : List ℕ). length l / 2) e in
+    ap (λ (q : List (List ℕ)). get_or (get_or q k []) j 0) (f ∙ ap (λ (m : ℕ). first_chunks 2 m n) half) ∙ in_pair 12 k j n hk hj
+    ∙ ap (λ (x : ℕ). get_or n x 0) at ∙ entry 24 i n constant_of e (omega arith)
+
+one_more : (a s t : List ℕ) (i k : ℕ) → s ≡ rounds_of i a → k ≡ constant_of i → t ≡ round_of k s → t ≡ rounds_of (suc i) a
 unfolding rounds_of
-one_more a s t i k es ek et = et ∙ ap₂ round_of ek es ∙ ap (λ (n : ℕ). rounds_of n a) (sym (add-one i))
+one_more a s t i k es ek et = et ∙ ap₂ round_of ek es
 
-two_more : (a s t u n : List ℕ) (i : ℕ) → n ≡ listed 24 0 constant_of → i + 1 < 24 → s ≡ rounds_of i a → t ≡ round_of (get_or n i 0) s
-    → u ≡ round_of (get_or n (i + 1) 0) t → u ≡ rounds_of (i + 2) a
-two_more a s t u n i en h es et eu =
-    let e : i + 1 + 1 ≡ i + 2 = omega arith in
-    one_more a t u (i + 1) (get_or n (i + 1) 0) (one_more a s t i (get_or n i 0) es (entry n i en (omega arith)) et) (entry n (i + 1) en h) eu
-    ∙ ap (λ (k : ℕ). rounds_of k a) e
-
-long : (s r : List ℕ) (k : ℕ) → r ≡ round_of k s → length r ≡ 25
-unfolding round_of
-long s r k e = ap length e
-
-veiled_long : (s r : List ℕ) → r ≡ veiled s → length r ≡ 25
-unfolding veiled
-veiled_long s r e = ap length e
-
-at_end : (a s v r : List ℕ) (i : ℕ) → i ≡ 24 → v ≡ veiled a → s ≡ rounds_of i v → r ≡ veiled s → r ≡ permuted a
-unfolding permuted
-at_end a s v r i e ev es er = er ∙ ap veiled (es ∙ ap₂ rounds_of e ev)
-
-pub loop-i-init : goal.loop-i-init
+pub loop-pair-init : goal.loop-pair-init
 unfolding rounds_of
-loop-i-init c = ((omega arith, refl), (c.round_constants-constants.ensures, (veiled_long _ _ c.veil-s.ensures, (refl, refl))))
+loop-pair-init c = refl
 
-pub round-requires : goal.round-requires
-round-requires c = let inv = c.loop-i.invariant.1 in (inv.1.0, inv.1.1.0)
-
-pub round-requires-in-loop-i : goal.round-requires-in-loop-i
-round-requires-in-loop-i c =
-    let inv = c.loop-i.invariant.1 in
-    (long _ _ _ c.round.ensures, inv.1.0)
-
-pub loop-i-preserved : goal.loop-i-preserved
-loop-i-preserved c =
-    let loop = c.loop-i in
-    let inv = loop.invariant.1 in
-    ((omega arith, omega arith), (inv.0, (long _ _ _ c.round-in-loop-i.ensures, (long _ _ _ c.round.ensures, two_more _ _ _ _ _ loop.i inv.0 (omega arith) inv.1.1.1 c.round.ensures c.round-in-loop-i.ensures))))
+pub loop-pair-preserved : goal.loop-pair-preserved
+loop-pair-preserved c =
+    let k = c.loop-pair.pair-index in
+    let v = c.veil-s.result in
+    let at : (j i : ℕ) → j < 2 → 2 * k + j ≡ i → get_or (get_or c.as_chunks.result.0.now k []) j 0 ≡ constant_of i = λ j i.
+    constant_at c.round_constants-constants.result c.as_chunks.result.0.now k j i c.round_constants-constants.ensures c.as_chunks.ensures.front (omega arith)
+    in
+    let first = one_more v _ _ (2 * k) _ c.loop-pair.invariant (at 0 (2 * k) (lit< tt) (omega arith)) c.round.ensures in
+    let second = one_more v _ _ (suc (2 * k)) _ first (at 1 (suc (2 * k)) (lit< tt) (omega arith)) c.round-in-loop-pair.ensures in
+    let e : suc (suc (2 * k)) ≡ 2 * (k + 1) = omega arith in
+    second ∙ ap (λ (n : ℕ). rounds_of n v) e
 
 pub returns : goal.returns
-returns c =
-    let loop = c.loop-i in
-    let veil = c.veil-s in
-    at_end _ _ _ _ loop.i (omega arith) veil.ensures loop.invariant.1.1.1.1 c.veil.ensures
+unfolding permuted
+returns c = let e : 2 * c.loop-pair.pair-index ≡ 24 = omega arith in cc
