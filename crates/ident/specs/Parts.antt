@@ -1,6 +1,6 @@
 -- Parts hashed one after another are the concatenations that the definitions hash.
 use Rattle.std.specs.Prelude.{ℕ, ◌+◌, ◌<◌, ◌≤◌, ◌≡◌, Bool, true, false, take, get_or, Ok, Err}
-use Rattle.std.proofs.Common.{sym, ap, ◌∙◌, add-one, take-suc}
+use Rattle.std.proofs.Common.{subst, sym, ap, ◌∙◌, add-one, take-suc}
 use mathlib.Core.List.{List, [], ◌∷◌, ◌++◌, append_assoc, append-nil}
 use native.Mathlib.Omega.{arith}
 use Rattle.std.proofs.Math.ListN.{length}
@@ -9,6 +9,8 @@ use borrow.Author.Tests.{lt-ltb, le-ltb}
 use Rattle.std.specs.Int.{to_le_bytes, w64}
 use Rattle.std.proofs.lemmas.Grind.{common_steps}
 use Rattle.sha3.specs.Hash.{sha3}
+use Rattle.sha3.specs.Laws.{sha3_length, sha3_bytes}
+use Rattle.ident.specs.Order.{Bytes, at_most_by_cmp, cmp_at_most}
 use Rattle.ident.specs.Ident.{little_endian, joined, nullifier_tag, id_tag, nullifier_of, id_of, computed_id, key_limit, parent_limit, work_hash, work_of, at_most}
 use Rattle.ident.specs.declared.WorkRefusal.TheVariants.{ListTooLong, OutOfRange}
 
@@ -55,6 +57,11 @@ module _ (key nullifier last : List ℕ) (parents : List (List ℕ)) (nonce : �
       let q : i ≡ length parents = omega arith in
       rw (q, take-length parents, e) (ap (λ (m : List ℕ). sha3 (m ++ little_endian 8 nonce)) (append_assoc key (joined parents) nullifier))
 
+  -- the nonce's bytes as the library gives them
+  pub work_parts_le : (i : ℕ) → i ≤ length parents → length parents ≤ i → last ≡ to_le_bytes w64 nonce
+      → sha3 (((key ++ joined (take i parents)) ++ nullifier) ++ last) ≡ work_hash key parents nullifier nonce
+  work_parts_le i h k e = work_parts i h k (e ∙ le_bytes nonce)
+
 module _ (key nullifier target : List ℕ) (parents : List (List ℕ)) (nonce : ℕ) where
   pub work_long : parent_limit < length parents → Err ListTooLong ≡ work_of key parents nullifier nonce target
   unfolding work_of
@@ -74,3 +81,13 @@ module _ (key nullifier target : List ℕ) (parents : List (List ℕ)) (nonce : 
 
     pub work_fails : b ≡ false → Ok false ≡ work_of key parents nullifier nonce target
     work_fails t = rw (← t) work_served
+
+-- the work test by the library's `<=` at arrays
+module _ (key nullifier target : List ℕ) (parents : List (List ℕ)) (nonce : ℕ) where
+  pub work_by_cmp : length parents ≤ parent_limit → length key ≤ key_limit → (hash : List ℕ) → hash ≡ work_hash key parents nullifier nonce
+      → length target ≡ 32 → Bytes target → (b : Bool) → b ≡ at_most_by_cmp hash target → Ok b ≡ work_of key parents nullifier nonce target
+  unfolding work_hash
+  work_by_cmp h k hash e l y b q =
+      let n : length hash ≡ 32 = ap length e ∙ sha3_length _ in
+      let z : Bytes hash = subst Bytes (sym e) (sha3_bytes _) in
+      work_served key nullifier target parents nonce h k hash e b (q ∙ cmp_at_most hash target (n ∙ sym l) z y)

@@ -79,6 +79,7 @@ pub enum WorkRefusal {
 }
 
 // The hash of the header and the nonce.
+#[tactic(auto, using(crate::specs::Parts::joined_none, crate::specs::Parts::joined_more, crate::specs::Parts::work_parts_le))]
 fn work_hash(key: &[u8], parents: &[[u8; 32]], nullifier: Nullifier, nonce: u64) -> [u8; 32]
     ensures { result ≡ work_hash key.now parents.now nullifier.0 nonce }
 {
@@ -93,7 +94,7 @@ fn work_hash(key: &[u8], parents: &[[u8; 32]], nullifier: Nullifier, nonce: u64)
 }
 
 // Whether the hash is at most the target, both read from their first byte.
-#[tactic(auto, using(crate::specs::Parts::work_long, crate::specs::Parts::work_range))]
+#[tactic(auto, using(crate::specs::Parts::work_long, crate::specs::Parts::work_range, crate::specs::Parts::work_by_cmp))]
 pub fn work(
     key: &[u8],
     parents: &[[u8; 32]],
@@ -109,5 +110,6 @@ pub fn work(
     if key.len() > KEY_LIMIT {
         return Err(WorkRefusal::OutOfRange);
     }
-    Ok(work_hash(key, parents, nullifier, nonce) <= target)
+    let hash = work_hash(key, parents, nullifier, nonce);
+    Ok(hash <= target)
 }
