@@ -1,27 +1,25 @@
--- The head, the whole lanes and what is left, one after the other, are the n bytes.
-use mathlib.Core.Path.{◌≡◌, ap, ◌∙◌}
-use mathlib.Core.List.{List}
-use Prim.Native.Nat.{ℕ, ◌+◌, ◌-◌, ◌*◌, ◌/◌, ◌≤◌}
-use native.Mathlib.Omega.{arith}
-use lib.ListN.{length, take, drop}
+-- The head, the whole lanes and what is left, one after the other, are the part.
+use mathlib.Core.Path.{◌≡◌, refl, sym, ap, ◌∙◌}
+use mathlib.Core.List.{List, ◌++◌}
+use Prim.Native.Nat.{ℕ, ◌+◌}
+use lib.ListN.{length}
 use Rattle.sha3.specs.Hash.{plus_bytes}
-use Rattle.sha3.specs.Sponge.{plus_bytes_then}
+use Rattle.sha3.specs.Sponge.{plus_bytes_append}
 use Rattle.sha3.proofs.block.add_some.Goals as goal
 
-three : (s m a b r : List ℕ) (p from n head lanes : ℕ) → head + lanes ≤ n → from + n ≤ length m
-    → a ≡ plus_bytes s p (take head (drop from m)) → b ≡ plus_bytes a (p + head) (take lanes (drop (from + head) m))
-    → r ≡ plus_bytes b (p + (head + lanes)) (take (n - (head + lanes)) (drop (from + (head + lanes)) m)) → r ≡ plus_bytes s p (take n (drop from m))
-three s m a b r p from n head lanes h l ea eb er =
-    let e : (head + lanes) + (n - (head + lanes)) ≡ n = omega arith in
-    let two : b ≡ plus_bytes s p (take (head + lanes) (drop from m)) =
-    eb ∙ ap (λ (x : List ℕ). plus_bytes x (p + head) (take lanes (drop (from + head) m))) ea ∙ plus_bytes_then s m p from head lanes (omega arith)
-    in
+three : (s part head mid tail a b r : List ℕ) (p h w : ℕ) → part ≡ head ++ (mid ++ tail) → length head ≡ h → length mid ≡ w
+    → a ≡ plus_bytes s p head → b ≡ plus_bytes a (p + h) mid → r ≡ plus_bytes b (p + h + w) tail → r ≡ plus_bytes s p part
+three s part head mid tail a b r p h w e eh ew ea eb er =
     er
-    ∙ ap (λ (x : List ℕ). plus_bytes x (p + (head + lanes)) (take (n - (head + lanes)) (drop (from + (head + lanes)) m))) two
-    ∙ plus_bytes_then s m p from (head + lanes) (n - (head + lanes)) (omega arith)
-    ∙ ap (λ (k : ℕ). plus_bytes s p (take k (drop from m))) e
+    ∙ (λ i. plus_bytes (eb i) (p + h + sym ew i) tail)
+    ∙ sym (plus_bytes_append mid tail a (p + h))
+    ∙ (λ i. plus_bytes (ea i) (p + sym eh i) (mid ++ tail))
+    ∙ sym (plus_bytes_append head (mid ++ tail) s p)
+    ∙ ap (plus_bytes s p) (sym e)
 
 pub returns : goal.returns
 returns c =
-    let least = c.least-head in
-    three _ c.args.part.now _ _ _ _ c.args.from c.args.n least.result (8 * ((c.args.n - least.result) / 8)) (omega arith) (omega arith) c.add_bytes-a.ensures c.add_lanes-b.ensures c.add_bytes.ensures
+    let head = c.split_at.ensures in
+    let whole = c.split_at-2.ensures in
+    let parts = head.by_index.0 ∙ ap (λ (m : List ℕ). c.split_at.result.0.now ++ m) whole.by_index.0 in
+    three _ c.args.part.now _ _ _ _ _ _ _ _ _ parts refl refl c.add_bytes-a.ensures c.add_lanes-b.ensures c.add_bytes.ensures
