@@ -32,15 +32,14 @@ impl Hasher {
         requires { self.at + length part.now ≤ 136 }
         ensures { result ≡ holding (plus_bytes self.lanes self.at part.now) (self.at + length part.now) }
     {
-        let lanes = block::add(self.lanes, self.at, part);
-        let at = self.at + part.len();
-        if at == RATE {
-            return Hasher {
-                lanes: keccak::permute(lanes),
-                at: 0,
-            };
+        let added = self.add(part);
+        if added.at < RATE {
+            return added;
         }
-        Hasher { lanes, at }
+        Hasher {
+            lanes: keccak::permute(added.lanes),
+            at: 0,
+        }
     }
 
     // The one call of the permutation is here, so that it is compiled into the loop; `finish` comes here too.
@@ -69,7 +68,7 @@ impl Hasher {
         let mut padding = [0u8; RATE];
         padding[at] = 0x06;
         padding[RATE - 1] |= 0x80;
-        block::squeeze(self.update(&padding[at..]).lanes)
+        self.update(&padding[at..]).squeeze()
     }
 }
 

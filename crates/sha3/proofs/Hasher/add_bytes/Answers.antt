@@ -8,7 +8,7 @@ use lib.ListN.{length, get_or, set, take}
 use lib.Pow.{shl_exact}
 use Rattle.sha3.specs.Hash.{plus_lane, plus_byte, plus_bytes}
 use Rattle.sha3.specs.Sponge.{plus_bytes_one}
-use Rattle.sha3.proofs.block.add_bytes.Goals as goal
+use Rattle.sha3.proofs.Hasher.add_bytes.Goals as goal
 
 in_place : (b k : ℕ) → b < 2 ^ 8 → k < 8 → b * 2 ^ (8 * k) % 2 ^ 64 ≡ b % 2 ^ 8 * 2 ^ (8 * k)
 in_place b k h l = shl_exact 8 (8 * k) 64 h (omega arith) ∙ ap (λ (v : ℕ). v * 2 ^ (8 * k)) (sym (mod-eq_of_lt h))
