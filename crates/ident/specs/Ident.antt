@@ -1,13 +1,10 @@
--- Epochs, nullifiers, ids and the work test, in document 01's words. A string of bytes is a list.
-use Rattle.std.specs.Prelude.{if◌then◌else◌, ℕ, zero, suc, ◌+◌, ◌*◌, ◌/◌, ◌%◌, ◌^◌, Bool, true, false, List, [], ◌∷◌, ◌++◌, length, replicate, eqb, leb, ltb}
+-- Epochs, nullifiers, ids and the work test. A string of bytes is a list.
+use Rattle.std.specs.Prelude.{if◌then◌else◌, ℕ, zero, suc, ◌+◌, ◌*◌, ◌/◌, ◌%◌, ◌^◌, Bool, true, false, List, [], ◌∷◌, ◌++◌, length, replicate, eqb, leb, ltb, Result, Ok, Err}
 use Rattle.sha3.specs.Hash.{sha3}
-use Rattle.ident.specs.declared.EpochAnswer.{EpochAnswer}
-use Rattle.ident.specs.declared.EpochAnswer.TheVariants.{Is, OutOfRange as ZeroDivisor}
-use Rattle.ident.specs.declared.Verdict.{Verdict}
-use Rattle.ident.specs.declared.Verdict.TheVariants.{Fine, OutOfRange as KeyTooLong}
-use Rattle.ident.specs.declared.ComputedId.{ComputedId}
-use Rattle.ident.specs.declared.WorkAnswer.{WorkAnswer}
-use Rattle.ident.specs.declared.WorkAnswer.TheVariants.{Passes, Fails, ListTooLong, OutOfRange}
+use Rattle.ident.specs.declared.Epoch.{Epoch}
+use Rattle.ident.specs.declared.OutOfRange.{OutOfRange as RangeRefusal}
+use Rattle.ident.specs.declared.WorkRefusal.{WorkRefusal}
+use Rattle.ident.specs.declared.WorkRefusal.TheVariants.{ListTooLong, OutOfRange}
 
 ------ limits
 
@@ -42,7 +39,7 @@ joined (p ∷ ps) = p ++ joined ps
 
 ------ replies
 
--- a reply's number in document 01, and its value
+-- a reply's number (0 for an answer, 2 and 10 for refusals) and its value
 pub record Reply : Type 0 where
   pub number : ℕ
   pub value : ℕ
@@ -50,19 +47,24 @@ pub record Reply : Type 0 where
 abbrev pub reply : ℕ → ℕ → Reply
 reply n v = record { number = n; value = v }
 
-abbrev pub epoch_reply : EpochAnswer → Reply
-epoch_reply (Is e) = reply 0 e.0
-epoch_reply ZeroDivisor = reply 10 0
+abbrev pub epoch_reply : Result Epoch RangeRefusal → Reply
+epoch_reply (Ok e) = reply 0 e.0
+epoch_reply (Err _) = reply 10 0
 
-abbrev pub work_reply : WorkAnswer → Reply
-work_reply Passes = reply 0 1
-work_reply Fails = reply 0 0
-work_reply ListTooLong = reply 2 0
-work_reply OutOfRange = reply 10 0
+abbrev pub work_reply : Result Bool WorkRefusal → Reply
+work_reply (Ok true) = reply 0 1
+work_reply (Ok false) = reply 0 0
+work_reply (Err ListTooLong) = reply 2 0
+work_reply (Err OutOfRange) = reply 10 0
 
-abbrev pub id_reply : Verdict → ℕ
-id_reply Fine = 0
-id_reply KeyTooLong = 10
+-- the number of an id's reply, and the id that stands beside it: zeros beside a refusal
+abbrev pub id_reply : Result (List ℕ) RangeRefusal → ℕ
+id_reply (Ok id) = 0
+id_reply (Err _) = 10
+
+abbrev pub id_beside : Result (List ℕ) RangeRefusal → List ℕ
+id_beside (Ok id) = id
+id_beside (Err _) = replicate 32 0
 
 ------ epochs
 
@@ -88,11 +90,9 @@ nullifier_of secret epoch nonce = sha3 (nullifier_tag ++ (secret ++ (little_endi
 unfoldable pub id_of : List ℕ → List ℕ → List ℕ
 id_of key nullifier = sha3 (id_tag ++ (key ++ nullifier))
 
--- the id, or the refusal of a key that is too long, with zeros beside it
-unfoldable pub computed_id : List ℕ → List ℕ → ComputedId
-computed_id key nullifier =
-    if ltb key_limit (length key) then record { verdict = KeyTooLong; id = replicate 32 0 }
-    else record { verdict = Fine; id = id_of key nullifier }
+-- the id, or the refusal of a key that is too long
+unfoldable pub computed_id : List ℕ → List ℕ → Result (List ℕ) RangeRefusal
+computed_id key nullifier = if ltb key_limit (length key) then Err (record {}) else Ok (id_of key nullifier)
 
 -- header: key, parents in order, nullifier
 abbrev pub header : List ℕ → List (List ℕ) → List ℕ → List ℕ
@@ -103,8 +103,8 @@ unfoldable pub work_hash : List ℕ → List (List ℕ) → List ℕ → ℕ →
 work_hash key parents nullifier nonce = sha3 (header key parents nullifier ++ little_endian 8 nonce)
 
 -- a parent list over 16 is refused with 2, a key over 4,096 bytes with 10, in this order
-unfoldable pub work_of : List ℕ → List (List ℕ) → List ℕ → ℕ → List ℕ → WorkAnswer
+unfoldable pub work_of : List ℕ → List (List ℕ) → List ℕ → ℕ → List ℕ → Result Bool WorkRefusal
 work_of key parents nullifier nonce target =
-    if ltb parent_limit (length parents) then ListTooLong
-    else (if ltb key_limit (length key) then OutOfRange
-    else (if at_most (work_hash key parents nullifier nonce) target then Passes else Fails))
+    if ltb parent_limit (length parents) then Err ListTooLong
+    else (if ltb key_limit (length key) then Err OutOfRange
+    else Ok (at_most (work_hash key parents nullifier nonce) target))

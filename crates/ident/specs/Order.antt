@@ -1,8 +1,14 @@
 -- Two strings of bytes of one length are in the order of their numbers as soon as a byte decides it.
-use Rattle.std.specs.Prelude.{ℕ, suc, ◌+◌, ◌*◌, ◌^◌, ◌≤◌, ◌<◌, ◌≡◌, refl, true, false, List, [], ◌∷◌, length, get_or, drop, leb}
+use Rattle.std.specs.Prelude.{ℕ, suc, ◌+◌, ◌*◌, ◌^◌, ◌≤◌, ◌<◌, ◌≡◌, refl, Bool, true, false, List, [], ◌∷◌, length, get_or, drop, leb}
 use Rattle.std.proofs.Common.{sym, ap, ◌∙◌, arith, mul-le-mul_right, pow-suc, add-one, length-drop, drop_of_length-le, drop-cons, get_or-drop, le-leb}
 use Rattle.std.proofs.Math.Decide.{dec_lt}
 use Rattle.std.proofs.lemmas.Bool.{lt-leb}
+use Rattle.std.specs.Prelude.{Some}
+use Rattle.std.specs.Cmp.{ranks}
+use Rattle.std.specs.Cmp.Lexicographic.{slice_partial_cmp}
+use Rattle.std.specs.Ordering.{MatchOrdering, partial_ordering_then, is_some_and, is_le, nat_cmp}
+use Rattle.std.specs.declared.cmp.Ordering.{Ordering}
+use Rattle.std.specs.declared.cmp.Ordering.TheVariants.{Less, Equal, Greater}
 use Rattle.ident.specs.Ident.{big_endian, at_most}
 
 -- every element is a byte
@@ -76,3 +82,24 @@ module _ (g h : List ℕ) (i : ℕ) (in_g : i < length g) (in-h : i < length h) 
 pub none_left : (g h : List ℕ) (i : ℕ) → length g ≤ i → length h ≤ i → true ≡ at_most (drop i g) (drop i h)
 unfolding big_endian
 none_left g h i p q = rw (drop_of_length-le g p, drop_of_length-le h q)
+
+------ the library's `<=` at arrays of bytes
+
+abbrev pub at_most_by_cmp : List ℕ → List ℕ → Bool
+at_most_by_cmp g h = is_some_and is_le (slice_partial_cmp (λ x y. Some (nat_cmp x y)) g h)
+
+by_first : (x y : ℕ) (g h : List ℕ) → length g ≡ length h → Bytes g → Bytes h → at_most_by_cmp g h ≡ at_most g h
+    → (o : Ordering) → MatchOrdering o (x < y) (x ≡ y) (y < x)
+    → is_some_and is_le (partial_ordering_then (Some o) (slice_partial_cmp (λ a b. Some (nat_cmp a b)) g h)) ≡ at_most (x ∷ g) (y ∷ h)
+by_first x y g h l bg bh rest Less k = sym (less_first x y g h l k bg)
+by_first x y g h l bg bh rest Equal k = rest ∙ sym (same_first x y g h l k)
+by_first x y g h l bg bh rest Greater k = sym (more_first x y g h l k bh)
+
+pub cmp_at_most : (g h : List ℕ) → length g ≡ length h → Bytes g → Bytes h → at_most_by_cmp g h ≡ at_most g h
+unfolding big_endian
+cmp_at_most [] [] l bg bh = refl
+cmp_at_most [] (y ∷ h) l bg bh = absurd (omega arith)
+cmp_at_most (x ∷ g) [] l bg bh = absurd (omega arith)
+cmp_at_most (x ∷ g) (y ∷ h) l bg bh =
+    let e : length g ≡ length h = omega arith in
+    by_first x y g h e (tail_bytes x g bg) (tail_bytes y h bh) (cmp_at_most g h e (tail_bytes x g bg) (tail_bytes y h bh)) (nat_cmp x y) (ranks x y)

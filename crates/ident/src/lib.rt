@@ -1,8 +1,6 @@
 // Epochs, nullifiers, ids and the work test: which bytes are hashed, and in which order.
 #![tactic(auto)]
 
-mod bytes;
-
 ghost use Rattle.std.specs.Prelude.{◌≡◌};
 ghost use Rattle.ident.specs.Ident.{little_endian, epoch_reply, epoch_of, nullifier_of, computed_id, work_hash, work_of};
 
@@ -12,133 +10,106 @@ const KEY_LIMIT: usize = 4096;
 
 const PARENT_LIMIT: usize = 16;
 
+// The refusal of a divisor that is 0, and of a key that is too long.
+#[derive(Clone, Copy, Debug, PartialEq, Eq)]
+pub struct OutOfRange;
+
 // An epoch, a kind of its own beside the depth that it comes from.
-#[derive(Clone, Copy)]
+#[derive(Clone, Copy, Debug, PartialEq, Eq, PartialOrd, Ord, Hash)]
 pub struct Epoch(pub u64);
 
-// An epoch, or the refusal of a divisor that is 0.
-#[derive(Clone, Copy)]
-pub enum EpochAnswer {
-    Is(Epoch),
-    OutOfRange,
-}
-
 impl Epoch {
-    pub fn from_depth(depth: u64, depth_per_epoch: u64) -> EpochAnswer
+    #[tactic(auto, unfolding(crate::specs::Ident::epoch_of))]
+    pub fn from_depth(depth: u64, depth_per_epoch: u64) -> Result<Epoch, OutOfRange>
         ensures { epoch_reply result ≡ epoch_of depth depth_per_epoch }
     {
-        if depth_per_epoch == 0 {
-            return EpochAnswer::OutOfRange;
-        }
-        EpochAnswer::Is(Epoch(depth / depth_per_epoch))
+        depth
+            .checked_div(depth_per_epoch)
+            .map(Epoch)
+            .ok_or(OutOfRange)
     }
 
     // Little-endian.
     pub fn to_bytes(self) -> [u8; 8]
         ensures { result ≡ little_endian 8 self.0 }
     {
-        bytes::little_endian(self.0)
+        self.0.to_le_bytes()
     }
 }
 
 // A nullifier, a kind of its own beside ids.
-#[derive(Clone, Copy)]
+#[derive(Clone, Copy, Debug, PartialEq, Eq, Hash)]
 pub struct Nullifier(pub [u8; 32]);
 
 impl Nullifier {
+    #[tactic(auto, using(crate::specs::Parts::nullifier_parts))]
     pub fn compute(secret_hash: [u8; 32], epoch: Epoch, nonce: &[u8]) -> Nullifier
         ensures { result.0 ≡ nullifier_of secret_hash epoch.0 nonce.now }
     {
-        let when = epoch.to_bytes();
         let hash = Hasher::new()
             .update(b"NULLIFIER_V2")
             .update(&secret_hash)
-            .update(&when)
+            .update(&epoch.to_bytes())
             .update(nonce)
             .finish();
         Nullifier(hash)
     }
 }
 
-#[derive(Clone, Copy)]
-pub enum Verdict {
-    Fine,
-    OutOfRange,
-}
-
-// The id, where the key is not refused; zeros where it is.
-#[derive(Clone, Copy)]
-pub struct ComputedId {
-    pub verdict: Verdict,
-    pub id: [u8; 32],
-}
-
-pub fn compute_id(key: &[u8], nullifier: Nullifier) -> ComputedId
+#[tactic(auto, using(crate::specs::Parts::id_refused, crate::specs::Parts::id_served))]
+pub fn compute_id(key: &[u8], nullifier: Nullifier) -> Result<[u8; 32], OutOfRange>
     ensures { result ≡ computed_id key.now nullifier.0 }
 {
-    if KEY_LIMIT < key.len() {
-        return ComputedId {
-            verdict: Verdict::OutOfRange,
-            id: [0u8; 32],
-        };
+    if key.len() > KEY_LIMIT {
+        return Err(OutOfRange);
     }
-    let spent = nullifier.0;
     let id = Hasher::new()
         .update(b"TX_ID_V3")
         .update(key)
-        .update(&spent)
+        .update(&nullifier.0)
         .finish();
-    ComputedId {
-        verdict: Verdict::Fine,
-        id,
-    }
+    Ok(id)
 }
 
-// What the work test says, or why it is refused.
-#[derive(Clone, Copy)]
-pub enum WorkAnswer {
-    Passes,
-    Fails,
+// Why the work test is refused.
+#[derive(Clone, Copy, Debug, PartialEq, Eq)]
+pub enum WorkRefusal {
     ListTooLong,
     OutOfRange,
 }
 
 // The hash of the header and the nonce.
+#[tactic(auto, using(crate::specs::Parts::joined_none, crate::specs::Parts::joined_more, crate::specs::Parts::work_parts_le))]
 fn work_hash(key: &[u8], parents: &[[u8; 32]], nullifier: Nullifier, nonce: u64) -> [u8; 32]
     ensures { result ≡ work_hash key.now parents.now nullifier.0 nonce }
 {
     let mut hasher = Hasher::new().update(key);
-    let mut i: usize = 0;
-    while i < parents.len() {
-        let parent = bytes::whole(parents[i]);
-        let next = hasher.update(&parent);
-        hasher = next;
-        i += 1;
+    for parent in parents {
+        hasher = hasher.update(parent);
     }
-    let spent = nullifier.0;
-    let last = bytes::little_endian(nonce);
-    hasher.update(&spent).update(&last).finish()
+    hasher
+        .update(&nullifier.0)
+        .update(&nonce.to_le_bytes())
+        .finish()
 }
 
+// Whether the hash is at most the target, both read from their first byte.
+#[tactic(auto, using(crate::specs::Parts::work_long, crate::specs::Parts::work_range, crate::specs::Parts::work_by_cmp))]
 pub fn work(
     key: &[u8],
     parents: &[[u8; 32]],
     nullifier: Nullifier,
     nonce: u64,
     target: [u8; 32],
-) -> WorkAnswer
+) -> Result<bool, WorkRefusal>
     ensures { result ≡ work_of key.now parents.now nullifier.0 nonce target }
 {
-    if PARENT_LIMIT < parents.len() {
-        return WorkAnswer::ListTooLong;
+    if parents.len() > PARENT_LIMIT {
+        return Err(WorkRefusal::ListTooLong);
     }
-    if KEY_LIMIT < key.len() {
-        return WorkAnswer::OutOfRange;
+    if key.len() > KEY_LIMIT {
+        return Err(WorkRefusal::OutOfRange);
     }
     let hash = work_hash(key, parents, nullifier, nonce);
-    if bytes::at_most(&hash, &target) {
-        WorkAnswer::Passes
-    } else {
-        WorkAnswer::Fails
-    }
+    Ok(hash <= target)
 }

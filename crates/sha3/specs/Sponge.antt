@@ -1,7 +1,9 @@
 -- Laws of the byte-wise sponge: parts one after the other, blocks, and lanes.
-use Rattle.std.specs.Prelude.{◌≡◌, refl, Bool, cond, List, [], ◌∷◌, ◌++◌, ℕ, suc, ◌+◌, ◌*◌, ◌/◌, ◌%◌, ◌^◌, ◌≤◌, ◌<◌, length, get_or, set, take, drop, replicate}
-use Rattle.std.proofs.Common.{sym, ap, ap₂, subst, ◌∙◌, ⊎_elim, mod-eq_of_lt, mod-lt, eq-or-lt_of_le, add-zero, zero-mul, mul_assoc, add-mul, add-one, arith, eq-eqb, ne_eqb, pow_pos, pow-add, shl_lt, lit<, length-drop, take-suc, take-add, drop-drop, set-set, get_or-set_same, length-take-le}
+use Rattle.std.specs.Prelude.{◌≡◌, refl, Bool, cond, List, [], ◌∷◌, ◌++◌, ℕ, zero, suc, ◌+◌, ◌*◌, ◌/◌, ◌%◌, ◌^◌, ◌≤◌, ◌<◌, length, get_or, set, take, drop, replicate}
+use Rattle.std.proofs.Common.{sym, ap, ap₂, subst, ◌∙◌, ⊎_elim, mod-eq_of_lt, mod-lt, eq-or-lt_of_le, add-zero, zero-mul, mul_assoc, add-mul, add-one, arith, eq-eqb, ne_eqb, pow_pos, pow-add, shl_lt, lit<, length-append, length-drop, take-suc, take-add, drop-drop, set-set, get_or-set_same, length-take-le, get_or-take, get_or-drop, drop-cons, drop_of_length-le}
+use Rattle.std.specs.Int.{from_le_bytes, w64}
 use Rattle.std.specs.Int.Bits.{bit_xor, xor_shifted, xor_zero_r}
+use Rattle.std.specs.Simd.{first_chunks}
 use Rattle.std.proofs.lemmas.Nat.{xor_comm}
 use Rattle.std.proofs.Math.Seq.{set_out}
 use Rattle.std.proofs.lemmas.List.{set-get_or}
@@ -13,6 +15,10 @@ use Rattle.sha3.specs.Hash.{plus_lane, plus_byte, plus_bytes, holding, take_byte
 -- a hasher of these lanes, at this place
 abbrev pub of : List ℕ → ℕ → Hasher
 of s p = record { lanes = s; at = p }
+
+-- a hasher with bytes added that go no further than its block's end
+abbrev pub added : Hasher → List ℕ → Hasher
+added h m = of (plus_bytes h.lanes h.at m) (h.at + length m)
 
 -- a block is full or not
 pub holding_full : (s : List ℕ) (p : ℕ) → p ≡ 136 → holding s p ≡ of (permuted s) 0
@@ -76,6 +82,11 @@ plus_bytes_append [] b s p = ap (λ (q : ℕ). plus_bytes s q b) (sym (add-zero 
 plus_bytes_append (x ∷ a) b s p =
     let e : suc p + length a ≡ p + suc (length a) = omega arith in
     plus_bytes_append a b (plus_byte s p x) (suc p) ∙ ap (λ (q : ℕ). plus_bytes (plus_bytes (plus_byte s p x) (suc p) a) q b) e
+
+pub added_append : (h : Hasher) (a b : List ℕ) → added h (a ++ b) ≡ added (added h a) b
+added_append h a b =
+    let e : h.at + length (a ++ b) ≡ h.at + length a + length b = omega (arith, length-append a b) in
+    λ i. of (plus_bytes_append a b h.lanes h.at i) (e i)
 
 -- a bytes of a part, and then b more
 pub plus_bytes_then : (s m : List ℕ) (p from a b : ℕ) → from + a ≤ length m
@@ -159,3 +170,56 @@ plus_bytes_lane s m p a l =
     let e : p ≡ 8 * (p / 8) + 0 = omega arith in
     let o : number m * 2 ^ (8 * 0) ≡ number m = omega arith in
     ap (λ (q : ℕ). plus_bytes s q m) e ∙ in_lane m s (p / 8) 0 (omega arith) ∙ ap (plus_lane s (p / 8)) o
+
+-- the library's number of eight bytes
+number_from : (m : List ℕ) (i : ℕ) → i < length m → get_or m i 0 < 2 ^ 8 → number (drop i m) ≡ number (drop (i + 1) m) * 2 ^ 8 + get_or m i 0
+unfolding number
+number_from m i h b =
+    ap number (drop-cons m i 0 h)
+    ∙ ap (λ (v : ℕ). number (drop (suc i) m) * 2 ^ 8 + v) (mod-eq_of_lt b)
+    ∙ ap (λ (j : ℕ). number (drop j m) * 2 ^ 8 + get_or m i 0) (sym (add-one i))
+
+number_end : (m : List ℕ) → length m ≡ 8 → number (drop 8 m) ≡ 0
+unfolding number
+number_end m h =
+    let l : length m ≤ 8 = omega arith in
+    ap number (drop_of_length-le m l)
+
+number_le : (m : List ℕ) → length m ≡ 8 → ((k : ℕ) → k < 8 → get_or m k 0 < 2 ^ 8) → from_le_bytes w64 m ≡ number m
+number_le m h b =
+    let n = λ (i : ℕ) (l : i < 8). number_from m i (omega arith) (b i l) in
+    omega (arith, n 0 (lit< tt), n 1 (lit< tt), n 2 (lit< tt), n 3 (lit< tt), n 4 (lit< tt), n 5 (lit< tt), n 6 (lit< tt), n 7 (lit< tt), number_end m h)
+
+-- the library's words of eight bytes
+word_at : (k i : ℕ) (m : List ℕ) → i < k → get_or (first_chunks 8 k m) i [] ≡ take 8 (drop (8 * i) m)
+word_at zero i m h = absurd (omega arith)
+word_at (suc k) zero m h = refl
+word_at (suc k) (suc i) m h =
+    let e : 8 + 8 * i ≡ 8 * suc i = omega arith in
+    word_at k i (drop 8 m) (omega arith) ∙ ap (take 8) (drop-drop (8 * i) 8 m) ∙ ap (λ (n : ℕ). take 8 (drop n m)) e
+
+pub word_le : (k i : ℕ) (m : List ℕ) → i < k → 8 * k ≤ length m → ((j : ℕ) → get_or m j 0 < 2 ^ 8)
+    → from_le_bytes w64 (get_or (first_chunks 8 k m) i []) ≡ number (take 8 (drop (8 * i) m))
+word_le k i m h l b =
+    let w : List ℕ = take 8 (drop (8 * i) m) in
+    let lw : length w ≡ 8 = length-take-le 8 (drop (8 * i) m) (omega (arith, length-drop (8 * i) m)) in
+    ap (from_le_bytes w64) (word_at k i m h)
+    ∙ number_le w lw
+    (λ j g. subst (λ (v : ℕ). v < 2 ^ 8) (sym (get_or-take 8 (drop (8 * i) m) j 0 g ∙ get_or-drop (8 * i) m j 0)) (b (8 * i + j)))
+
+-- a word more
+pub plus_bytes_word : (s m : List ℕ) (p i : ℕ) → p % 8 ≡ 0 → 8 * i + 8 ≤ length m
+    → plus_bytes s p (take (8 * (i + 1)) m) ≡ plus_lane (plus_bytes s p (take (8 * i) m)) (p / 8 + i) (number (take 8 (drop (8 * i) m)))
+plus_bytes_word s m p i a h =
+    let t : List ℕ = take (8 * i) m in
+    let w : List ℕ = take 8 (drop (8 * i) m) in
+    let e : 8 * (i + 1) ≡ 8 * i + 8 = omega arith in
+    let l : length t ≡ 8 * i = length-take-le (8 * i) m (omega arith) in
+    let lw : length w ≡ 8 = length-take-le 8 (drop (8 * i) m) (omega (arith, length-drop (8 * i) m)) in
+    let k : (p + 8 * i) / 8 ≡ p / 8 + i = omega arith in
+    ap (λ (n : ℕ). plus_bytes s p (take n m)) e
+    ∙ ap (plus_bytes s p) (take-add (8 * i) 8 m)
+    ∙ plus_bytes_append t w s p
+    ∙ ap (λ (n : ℕ). plus_bytes (plus_bytes s p t) (p + n) w) l
+    ∙ plus_bytes_lane (plus_bytes s p t) w (p + 8 * i) (omega arith) lw
+    ∙ ap (λ (n : ℕ). plus_lane (plus_bytes s p t) n (number w)) k

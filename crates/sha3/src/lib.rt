@@ -3,9 +3,9 @@
 
 mod block;
 
-ghost use Rattle.std.specs.Prelude.{◌≡◌, List, [], ◌++◌, ℕ};
+ghost use Rattle.std.specs.Prelude.{◌≡◌, List, [], ◌++◌, ℕ, ◌+◌, ◌≤◌, length};
 ghost use Rattle.keccak.specs.Fips202.{bits_of, sha3_256};
-ghost use Rattle.sha3.specs.Hash.{taken, after, digest, sha3};
+ghost use Rattle.sha3.specs.Hash.{plus_bytes, holding, taken, after, digest, sha3};
 
 // The bytes of a block: the 1088 bits of the rate.
 const RATE: usize = 136;
@@ -27,27 +27,35 @@ impl Hasher {
         }
     }
 
+    // Bytes that go no further than the block's end; a full block is permuted.
+    fn fill(self, part: &[u8]) -> Hasher
+        requires { self.at + length part.now ≤ 136 }
+        ensures { result ≡ holding (plus_bytes self.lanes self.at part.now) (self.at + length part.now) }
+    {
+        let added = self.add(part);
+        if added.at < RATE {
+            return added;
+        }
+        Hasher {
+            lanes: keccak::permute(added.lanes),
+            at: 0,
+        }
+    }
+
     // The one call of the permutation is here, so that it is compiled into the loop; `finish` comes here too.
     pub fn update(self, part: &[u8]) -> Hasher
         ensures value { result ≡ taken self part.now }
         ensures of_message { (m : List ℕ) → self ≡ after m → result ≡ after (m ++ part.now) }
     {
-        let mut lanes = self.lanes;
-        let mut at = self.at % RATE;
-        let mut i = 0;
-        while i < part.len() {
-            let n = block::least(RATE - at, part.len() - i);
-            let added = block::add(lanes, at, part, i, n);
-            lanes = added;
-            at += n;
-            i += n;
-            if at == RATE {
-                let permuted = keccak::permute(lanes);
-                lanes = permuted;
-                at = 0;
-            }
+        let mut hasher = self;
+        hasher.at %= RATE;
+        let mut rest = part;
+        while !rest.is_empty() {
+            let (now, later) = rest.split_at(rest.len().min(RATE - hasher.at));
+            hasher = hasher.fill(now);
+            rest = later;
         }
-        Hasher { lanes, at }
+        hasher
     }
 
     // The suffix 01 and the padding fill the block.
@@ -57,12 +65,10 @@ impl Hasher {
         ensures of_bits { (m : List ℕ) → self ≡ after m → bits_of result ≡ sha3_256 (bits_of m) }
     {
         let at = self.at % RATE;
-        let mut padding = [0u8; 136];
+        let mut padding = [0u8; RATE];
         padding[at] = 0x06;
-        padding[135] = padding[135] | 0x80;
-        let full = self.update(&padding[at..RATE]);
-        let lanes = full.lanes;
-        block::squeeze(lanes)
+        padding[RATE - 1] |= 0x80;
+        self.update(&padding[at..]).squeeze()
     }
 }
 

@@ -58,7 +58,7 @@ pub returns : goal.returns
 returns c =
     let at = c.args.self.at % 136 in
     let pad = filled at (135 - at) (136 - at) 136 135 (omega arith) (omega arith) (omega arith) in
-    let e = whole c.args.self _ _ _ c.update-full.ensures.value pad c.squeeze.ensures in
+    let e = whole c.args.self _ _ _ c.update.ensures.value pad c.squeeze.ensures in
     record {
       value = e;
       of_message = λ m h. e ∙ digest_after _ m h;
