@@ -4,10 +4,10 @@ use Rattle.std.proofs.Common.{sym, ap, ap₂, ◌∙◌, ⊎_elim, arith}
 use Rattle.std.proofs.Math.Bool.{or-false, and-false}
 use Rattle.std.specs.Int.Count.{ones}
 use Rattle.bitset.specs.Cases.{lt_or_le}
-use Rattle.bitset.specs.Sets.{is_one, member, in_both, in_either, count_below, numbers, words}
+use Rattle.bitset.specs.Sets.{IsWord, is_one, member, in_both, in_either, count_below, numbers, words}
 use Rattle.bitset.specs.Bit.{ones_count}
 use Rattle.bitset.specs.Counts.{None, count_add, count_more}
-use Rattle.bitset.specs.Words.{IsWord, member_at, member_past, none_either, count_word}
+use Rattle.bitset.specs.Words.{member_at, member_past, none_either, count_word}
 
 -- one word more is counted
 pub counted_more : (p : ℕ → Bool) (i x t : ℕ) → x < 2 ^ 64 → IsWord p i x → t ≡ count_below p (i * 64) → t + ones x ≡ count_below p ((i + 1) * 64)

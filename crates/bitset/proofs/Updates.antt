@@ -1,19 +1,9 @@
 -- How the code of `has`, `add`, `remove`, `clear`, `join` and `meet` goes with the definitions: a law for each way through it. Assumes nothing.
-use mathlib.Core.Path.{◌≡◌, refl, sym, ap, ap₂, ◌∙◌}
-use mathlib.Core.List.{List, [], ◌∷◌, ◌++◌, append-nil}
-use Prim.Native.Nat.{ℕ, zero, suc, ◌+◌, ◌-◌, ◌*◌, ◌/◌, ◌%◌, ◌^◌, ◌≤◌, ◌<◌, min}
-use native.Mathlib.Nat.{not-suc-le-zero, le_of_suc-le-suc}
-use native.Mathlib.Numerals.{add-one}
-use native.Mathlib.Omega.{arith}
-use lib.Bits.{bit_and, bit_or, and_mask, or_zero_r, and_zero_r}
-use lib.Dec.{eqb}
-use lib.ListN.{length, get_or, take, drop, set, replicate, drop_of_length-le, length-drop}
-use lib.Seq.{length-take-le, take_at, drop_at, take_all}
+use Rattle.std.proofs.Common.{◌≡◌, refl, sym, ap, ap₂, ◌∙◌, List, [], ◌∷◌, ◌++◌, append-nil, ℕ, zero, suc, ◌+◌, ◌-◌, ◌*◌, ◌/◌, ◌%◌, ◌^◌, ◌≤◌, ◌<◌, min, not-suc-le-zero, le_of_suc-le-suc, add-one, arith, bit_and, bit_or, eqb, length, get_or, take, drop, set, replicate, drop_of_length-le, length-drop, length-take-le, take_at, drop_at, take_all, Option, Some, None, Bool, false, MatchOption, option_map, unwrap_or, Bor}
+use Rattle.std.proofs.lemmas.Nat.{and_mask}
+use Rattle.std.specs.Int.Bits.{or_zero_r, and_zero_r}
 use Rattle.bitset.specs.Sets.{is_one, member, with_member, without, words_with, joined, met, cleared}
 use Rattle.bitset.specs.Bit.{shifted_mark, zero_one}
-use Rattle.std.specs.Prelude.{Option, Some, None, Bool, false}
-use Rattle.std.specs.Option.{MatchOption, option_map, unwrap_or}
-use denote.Ref.{Bor}
 use Rattle.bitset.specs.Words.{length_words}
 
 -- ── One number ──

@@ -1,14 +1,7 @@
 -- How the code of `next` and `list` goes with the definitions. Assumes nothing.
-use mathlib.Core.Path.{◌≡◌, refl, sym, ap, ap₂, ◌∙◌, subst}
-use mathlib.Core.Bool.{Bool, true}
-use mathlib.Core.List.{List, [], ◌∷◌, ◌++◌}
-use Prim.Native.Nat.{ℕ, ◌+◌, ◌-◌, ◌*◌, ◌/◌, ◌^◌, ◌≤◌, ◌<◌, min}
-use native.Mathlib.Nat.{lt_of_le_of_lt}
-use native.Mathlib.Numerals.{add-one}
-use native.Mathlib.Omega.{arith}
-use lib.Count.{count_trailing_zeros}
-use lib.ListN.{length, get_or, set, length-append, length-set}
-use lib.Pow.{shr_le}
+use Rattle.std.proofs.Common.{◌≡◌, refl, sym, ap, ap₂, ◌∙◌, subst, Bool, true, List, [], ◌∷◌, ◌++◌, ℕ, ◌+◌, ◌-◌, ◌*◌, ◌/◌, ◌^◌, ◌≤◌, ◌<◌, min, lt_of_le_of_lt, add-one, arith, length, get_or, set, length-append, length-set}
+use Rattle.std.proofs.lemmas.Nat.{shr_le}
+use Rattle.std.specs.Int.Count.{count_trailing_zeros}
 use Rattle.bitset.specs.Sets.{is_one, member, members, next_from, placed}
 use Rattle.bitset.specs.Bit.{shifted_one, zero_one, below_lowest, lowest_one, lowest_from}
 use Rattle.bitset.specs.Counts.{None, none_add}

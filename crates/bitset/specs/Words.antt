@@ -16,15 +16,11 @@ use Rattle.std.proofs.lemmas.List.{length-replicate, get_or-replicate}
 use Rattle.std.proofs.Math.Pow.{pow-lt}
 use Rattle.std.proofs.Math.Seq.{set_out}
 use Rattle.bitset.specs.Cases.{lt_or_le, false_or_true}
-use Rattle.bitset.specs.Sets.{is_one, member, in_both, in_either, with_member, without, words_with, joined, met, cleared, count_below, numbers, words}
+use Rattle.bitset.specs.Sets.{is_one, member, IsWord, in_both, in_either, with_member, without, words_with, joined, met, cleared, count_below, numbers, words}
 use Rattle.bitset.specs.Bit.{or_one, and_one, not_one, zero_one, pow_one}
 use Rattle.bitset.specs.Counts.{None, count_same, count_add, count_more, count_new, count_mono}
 
 -- ── Members by word ──
-
--- The bits of x tell which of the 64 numbers from i * 64 on have p.
-abbrev pub IsWord : (ℕ → Bool) → ℕ → ℕ → Type 0
-IsWord p i x = (j : ℕ) → j < 64 → p (i * 64 + j) ≡ is_one x j
 
 pub member_at : (s : List ℕ) (i j : ℕ) → j < 64 → member s (i * 64 + j) ≡ is_one (get_or s i 0) j
 unfolding member

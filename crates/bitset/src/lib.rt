@@ -2,15 +2,14 @@
 #![tactic(auto)]
 
 ghost use Rattle.std.specs.Prelude.{◌≡◌, ℕ, Bool, ◌*◌, ◌-◌, ◌≤◌, ◌<◌, min, length};
-ghost use Rattle.bitset.specs.Sets.{member, in_both, in_either, with_member, without, joined, met, cleared};
+ghost use Rattle.bitset.specs.Sets.{member, IsWord, in_both, in_either, with_member, without, joined, met, cleared};
 ghost use Rattle.bitset.specs.Sets.{count_below, next_from, numbers, words, listed, placed};
-ghost use Rattle.bitset.specs.Words.{IsWord};
 
 // Sets are counted and listed as far as a u16 holds numbers.
 const NUMBERS: usize = 65536;
 
 // The words of so many numbers.
-const WORDS: usize = 1024;
+const WORDS: usize = NUMBERS / 64;
 
 // Whether n is a member. Past the end there is none.
 pub fn has(set: &[u64], n: usize) -> bool
@@ -20,7 +19,8 @@ pub fn has(set: &[u64], n: usize) -> bool
         .is_some_and(|word| (word >> (n % 64)) & 1 == 1)
 }
 
-// n becomes a member, unless it is past the end.
+// n becomes a member, unless it is past the end. Words are written by place here and below: of what is written through `get_mut`, or through a `zip` of
+// `iter_mut`, a proof knows only how many words there are.
 pub fn add(set: &mut [u64], n: usize)
     ensures { set.new ≡ with_member set.old n }
 {
@@ -40,11 +40,13 @@ pub fn remove(set: &mut [u64], n: usize)
     }
 }
 
-// No number is a member any more.
+// No number is a member any more. A loop, which becomes one memset: `fill` stores the last word apart from the others, which takes longer.
 pub fn clear(set: &mut [u64])
     ensures { set.new ≡ cleared set.old }
 {
-    set.fill(0);
+    for word in set.iter_mut() {
+        *word = 0;
+    }
 }
 
 // The members of other join the set, as far as the set reaches.
@@ -64,11 +66,10 @@ pub fn meet(set: &mut [u64], other: &[u64])
     for i in 0..n {
         set[i] &= other[i];
     }
-    set[n..].fill(0);
+    clear(&mut set[n..]);
 }
 
-// The ones of the first n words that `word` gives by place. Where the bits of word i tell which numbers from i * 64 on have a property, that many
-// numbers have it.
+// How many bits are one in n words, which `word` gives by place: so many numbers below n * 64 have the property that the words' bits tell.
 fn count_ones<F: Fn(usize) -> u64>(n: usize, word: F) -> usize
     requires few { n ≤ words }
     requires callable { (i : ℕ) → i < n → F.pre word i }
@@ -106,7 +107,8 @@ pub fn count_joined(a: &[u64], b: &[u64]) -> usize
     count_ones(both, |i| a[i] | b[i]) + count_ones(alone, |i| longer[both + i])
 }
 
-// The least member from `from` on that is below `end`; `end` where there is none, and `from` where that is not below `end`.
+// The least member from `from` on that is below `end`; `end` where there is none, and `from` where that is not below `end`. No Option, since next_from
+// gives a number in each of these cases.
 pub fn next(set: &[u64], from: usize, end: usize) -> usize
     ensures { result ≡ next_from (member set.now) from (end - from) }
 {

@@ -1,7 +1,6 @@
 -- The first i words are counted.
 use Rattle.std.proofs.Common.{◌≡◌, ℕ, Bool, ◌*◌, ◌≤◌, ◌<◌}
-use Rattle.bitset.specs.Sets.{count_below}
-use Rattle.bitset.specs.Words.{IsWord}
+use Rattle.bitset.specs.Sets.{IsWord, count_below}
 use Rattle.bitset.proofs.count_ones.Given as goal
 
 abbrev pub invariant-loop-i : goal.invariant-loop-i

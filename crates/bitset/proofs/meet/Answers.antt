@@ -7,4 +7,4 @@ pub loop-i-preserved : goal.loop-i-preserved
 loop-i-preserved c = done_next bit_and _ _ _ _ c.loop-i.invariant (omega arith)
 
 pub returns : goal.returns
-returns c = meet_end _ _ _ _ c.loop-i.i _ c.min-n.ensures c.loop-i.invariant (c.fill.ensures.after (λ y h. h)) (omega arith)
+returns c = meet_end _ _ _ _ c.loop-i.i _ c.min-n.ensures c.loop-i.invariant c.clear.ensures (omega arith)
