@@ -98,7 +98,7 @@ module _ (p : ℕ → Bool) (end n put : ℕ) (out₀ out : List ℕ) (l : Listi
             ∙ ap (λ (r : List ℕ). placed r out₀) (sym one);
       }
 
-  -- what is there at the end, or once out is full
+  -- what is there once out is full
   abbrev Put : ℕ → Type 0
   Put m = (put ≡ min (length (members p m)) (length out₀)) × (out ≡ placed (members p m) out₀)
 
@@ -107,9 +107,3 @@ module _ (p : ℕ → Bool) (end n put : ℕ) (out₀ out : List ℕ) (l : Listi
       let b = members_begin p n m (omega arith) in
       let more : length (members p m) ≡ length (members p n) + length b.0 = ap length b.1 ∙ length-append (members p n) b.0 in
       (omega arith, l.all ∙ sym (ap (λ (r : List ℕ). placed r out₀) b.1 ∙ placed_full (members p n) b.0 out₀ (omega arith)))
-
-  pub listing_end : (m : ℕ) → end ≡ m → end ≤ n → Put m
-  listing_end m e h =
-      let g : n ≡ m = omega arith in
-      let many : put ≡ length (members p m) = l.many ∙ ap (λ (k : ℕ). length (members p k)) g in
-      (omega arith, l.all ∙ ap (λ (k : ℕ). placed (members p k) out₀) g)

@@ -1,6 +1,5 @@
 -- The first i words are joined and the others as they were; past the end of other they stay.
-use mathlib.Core.Path.{◌≡◌}
-use lib.Bits.{bit_or}
+use Rattle.std.proofs.Common.{◌≡◌, bit_or}
 use Rattle.bitset.proofs.Updates.{done}
 use Rattle.bitset.proofs.join.Given as goal
 

@@ -1,15 +1,9 @@
 use Rattle.std.proofs.Common.{◌≡◌, sym, ◌∙◌, length, arith}
-use Rattle.std.proofs.lemmas.List.{set-get_or}
-use Rattle.bitset.proofs.Walks.{listing_start, listing_next, listing_full, listing_end}
+use Rattle.bitset.proofs.Walks.{listing_start, listing_next, listing_full}
 use Rattle.bitset.proofs.list.Goals as goal
 
 pub loop-put-init : goal.loop-put-init
 loop-put-init c = (omega arith, listing_start _ _ _ _ c.next-n.ensures)
-
-pub returns-then-n-end : goal.returns-then-n-end
-returns-then-n-end c =
-    let all = listing_end _ _ _ _ _ _ c.loop-put.invariant.1 _ c.min-end.ensures c.if-n-end.true in
-    record { count = all.0; filled = set-get_or c.loop-put.out c.loop-put.put 0 ∙ all.1 }
 
 pub loop-put-preserved : goal.loop-put-preserved
 loop-put-preserved c =

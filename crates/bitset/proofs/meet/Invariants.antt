@@ -1,6 +1,5 @@
 -- The first i words are masked and the others as they were; past the end of other they become 0.
-use mathlib.Core.Path.{◌≡◌}
-use lib.Bits.{bit_and}
+use Rattle.std.proofs.Common.{◌≡◌, bit_and}
 use Rattle.bitset.proofs.Updates.{done}
 use Rattle.bitset.proofs.meet.Given as goal
 

@@ -1,15 +1,11 @@
 use Rattle.std.proofs.Common.{refl, arith}
 use Rattle.bitset.specs.Bit.{lowest_from}
-use Rattle.bitset.specs.Counts.{none_here}
 use Rattle.bitset.specs.Lists.{next_past}
 use Rattle.bitset.proofs.Walks.{next_word, next_found, next_end}
 use Rattle.bitset.proofs.next.Goals as goal
 
 pub returns-then-end-from : goal.returns-then-end-from
 returns-then-end-from c = next_past _ _ _ c.if-end-from.true
-
-pub loop-i-init : goal.loop-i-init
-loop-i-init c = (omega arith, omega arith, none_here _ _ _ (omega arith))
 
 pub overflow_add-i-then-rest-ne0 : goal.overflow_add-i-then-rest-ne0
 overflow_add-i-then-rest-ne0 c =
