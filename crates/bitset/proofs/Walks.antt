@@ -99,10 +99,7 @@ module _ (p : ℕ → Bool) (end n put : ℕ) (out₀ out : List ℕ) (l : Listi
       }
 
   -- what is there once out is full
-  abbrev Put : ℕ → Type 0
-  Put m = (put ≡ min (length (members p m)) (length out₀)) × (out ≡ placed (members p m) out₀)
-
-  pub listing_full : (m : ℕ) → end ≡ m → put ≡ length out → Put m
+  pub listing_full : (m : ℕ) → end ≡ m → put ≡ length out → (put ≡ min (length (members p m)) (length out₀)) × (out ≡ placed (members p m) out₀)
   listing_full m e f =
       let b = members_begin p n m (omega arith) in
       let more : length (members p m) ≡ length (members p n) + length b.0 = ap length b.1 ∙ length-append (members p n) b.0 in
