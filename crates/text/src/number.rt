@@ -27,5 +27,6 @@ fn with_digit(value: u64, byte: u8) -> Option<u64>
     if !byte.is_ascii_digit() {
         return None;
     }
-    value.checked_mul(10)?.checked_add(u64::from(byte - b'0'))
+    let tens = value.checked_mul(10)?;
+    tens.checked_add(u64::from(byte - b'0'))
 }

@@ -8,7 +8,7 @@ pub returns-then-is_empty : goal.returns-then-is_empty
 returns-then-is_empty c =
     elim c.then-is_empty.branch [
       | then-is_empty-via-then-is_empty w ↦ too_short _ (search rules)
-      | then-is_empty-via-else-is_empty+then-s-gt-MOST_DIGITS w ↦ too_long _ w.if-s-gt-MOST_DIGITS.true
+      | then-is_empty-via-else-is_empty+then-s-gt-MOST_DIGITS w ↦ too_long _ (omega arith)
     ]
 
 pub loop-byte-init : goal.loop-byte-init

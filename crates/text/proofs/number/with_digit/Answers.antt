@@ -8,12 +8,12 @@ returns-then-not-is_ascii_digit c =
     let other = c.if-not-is_ascii_digit.ensures.cases in
     either 48 c.args.byte (λ low. digit_high _ _ (omega (arith, other))) (λ h. digit_low _ _ h)
 
-pub returns-in_err-checked_mul : goal.returns-in_err-checked_mul
-returns-in_err-checked_mul c =
-    let wide = digit_wide c.args.value c.args.byte (omega (arith, c.in_err-checked_mul.ensures)) in
+pub returns-in_err-tens : goal.returns-in_err-tens
+returns-in_err-tens c =
+    let wide = digit_wide c.args.value c.args.byte (omega (arith, c.in_err-tens.ensures)) in
     cc
 
 pub returns : goal.returns
 returns c =
     let digit = c.if-not-is_ascii_digit.ensures.cases in
-    digit_checked c.args.value c.args.byte _ (omega (arith, digit)) (omega (arith, digit)) (rw (c.in_ok-checked_mul.ensures.1, c.from.ensures) at c.checked_add.ensures)
+    digit_checked c.args.value c.args.byte _ (omega (arith, digit)) (omega (arith, digit)) (rw (c.in_ok-tens.ensures.1, c.from.ensures) at c.checked_add.ensures)
