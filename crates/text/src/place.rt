@@ -1,5 +1,5 @@
 // Where things stand in a buffer.
-ghost use Rattle.std.specs.Prelude.{◌≡◌, min};
+ghost use Rattle.std.specs.Prelude.{◌≡◌};
 ghost use Rattle.text.specs.Pieces.{place_of};
 ghost use Rattle.text.specs.Put.{page, kept_of};
 
@@ -20,21 +20,9 @@ pub fn place_of(s: &[u8], b: u8) -> usize
 pub fn keep(buf: &mut [u8], from: usize, to: usize, most: usize) -> usize
     ensures { page buf.new result ≡ kept_of buf.old from to most }
 {
-    let end = least(to, buf.len());
-    if end <= from {
-        return 0;
-    }
-    let n = least(end - from, most);
-    let mut i = 0;
-    while i < n {
-        buf[i] = buf[from + i];
-        i += 1;
-    }
-    n
-}
-
-fn least(a: usize, b: usize) -> usize
-    ensures { result ≡ min a b }
-{
-    if a < b { a } else { b }
+    let end = to.min(buf.len());
+    let start = from.min(end);
+    let size = (end - start).min(most);
+    buf.copy_within(start..start + size, 0);
+    size
 }
