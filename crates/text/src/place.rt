@@ -7,12 +7,7 @@ ghost use Rattle.text.specs.Put.{page, kept_of};
 pub fn place_of(s: &[u8], b: u8) -> usize
     ensures { result ≡ place_of b s.now }
 {
-    for (i, x) in s.iter().enumerate() {
-        if *x == b {
-            return i;
-        }
-    }
-    s.len()
+    s.iter().position(|x| *x == b).unwrap_or(s.len())
 }
 
 // Moves the bytes from `from` up to `to` to the front of buf, at most `most` of them, and gives their
