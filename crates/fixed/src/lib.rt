@@ -4,11 +4,13 @@
 mod throttle;
 pub mod unsigned;
 
-ghost use Rattle.std.specs.Prelude.{◌≡◌, false, ◌*ℤ◌};
+ghost use Rattle.std.specs.Prelude.{◌≡◌, false, ◌*ℤ◌, Some, codes};
 ghost use Rattle.std.specs.Int.Signed.{quot_z};
 ghost use Rattle.fixed.specs.Answers.{answer};
 ghost use Rattle.fixed.specs.Rules.{is_zero, kept, ratio_of, product_of, alpha_max, alpha_of, curvature_of, in_range, weight_of};
 
+use std::error::Error;
+use std::fmt;
 pub use throttle::{alpha, fine_alpha};
 
 // A number in 65,536ths.
@@ -18,6 +20,16 @@ pub struct FixedPoint(pub i32);
 // The refusal of a curvature, or of counts, out of range.
 #[derive(Clone, Copy, Debug, PartialEq, Eq)]
 pub struct OutOfRange;
+
+impl fmt::Display for OutOfRange {
+    ghost output = { λ _. Some (codes "out of range") };
+
+    fn fmt<W: fmt::Write>(&self, f: &mut fmt::Formatter<W>) -> fmt::Result {
+        f.write_str("out of range")
+    }
+}
+
+impl Error for OutOfRange {}
 
 impl FixedPoint {
     // This many 65,536ths are 1, which is also the full weight.
@@ -52,6 +64,7 @@ impl FixedPoint {
     }
 
     // The curvature of two sets, by how many members they share and how many they have together.
+    #[tactic(auto, using(crate::specs::Curvatures::curvature_refused, crate::specs::Curvatures::raised_curvature_most, crate::proofs::Curvatures::curvature_served))]
     pub fn curvature(shared: u32, joined: u32) -> Result<FixedPoint, OutOfRange>
         ensures { answer result ≡ curvature_of shared joined }
     {
@@ -70,6 +83,7 @@ impl FixedPoint {
     }
 
     // The weight of an edge of this curvature, at a given alpha.
+    #[tactic(auto, using(crate::proofs::Fits::times_fits, crate::specs::Weights::weight_refused, crate::specs::Weights::weight_served, crate::specs::Weights::edge_whole))]
     pub fn weight_with(self, alpha: u32) -> Result<FixedPoint, OutOfRange>
         ensures { answer result ≡ weight_of alpha self.0 }
     {
