@@ -6,6 +6,7 @@ ghost use Rattle.weights_line.specs.Rules.{answer_of, figures_of};
 use crate::Counts;
 use fixed::{FixedPoint, OutOfRange};
 
+// A curvature and a weight in 65,536ths, and the alpha between them.
 #[derive(Clone, Copy, Debug, PartialEq, Eq)]
 pub struct Figures {
     pub curvature: i32,
@@ -13,6 +14,7 @@ pub struct Figures {
     pub weight: i32,
 }
 
+// The figures of a line that was taken.
 #[tactic(auto, unfolding(crate::specs::Rules::answer_of))]
 pub fn answer_to(line: Option<Counts>) -> Option<Figures>
     ensures { result ≡ answer_of line }
