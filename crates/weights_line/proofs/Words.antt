@@ -36,8 +36,8 @@ all_left g line rest done callee test = record {
 }
 
 module _ {S A : Type 0} {steps : S → Option A → S → Type 0} {v : A → List ℕ} {line : List ℕ} {first : List (List ℕ)} {t u : S} {r : Option A} where
-  pub taken : Left steps v line first t → steps t r u → {x : A} → r ≡ Some x → Left steps v line (first ++ v x ∷ []) u
-  taken l k {x} e = by l.others l.whole l.yields
+  pub next_word : Left steps v line first t → steps t r u → {x : A} → r ≡ Some x → Left steps v line (first ++ v x ∷ []) u
+  next_word l k {x} e = by l.others l.whole l.yields
     where
       by : (others : List (List ℕ)) → words line ≡ first ++ others → YieldsList steps v t others → Left steps v line (first ++ v x ∷ []) u
       by [] w y = absurd (y.runs _ _ (rw e at k))
@@ -104,4 +104,4 @@ module _ {S A : Type 0} {steps : S → Option A → S → Type 0} {v : A → Lis
     pub four_or_more : (r : Option A) → steps t r u → is_some r ≡ true → None ≡ line_of line
     unfolding from_words
     four_or_more None k e = cc
-    four_or_more (Some x) k e = by_words line fits (taken l k {x = x} refl).whole
+    four_or_more (Some x) k e = by_words line fits (next_word l k {x = x} refl).whole

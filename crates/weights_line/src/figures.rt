@@ -23,6 +23,7 @@ pub fn answer_to(line: Option<Counts>) -> Option<Figures>
 }
 
 impl Counts {
+    #[tactic(auto, using(crate::specs::FigureLaws::bad_counts, crate::specs::FigureLaws::no_bad_weight))]
     fn figures(self) -> Result<Figures, OutOfRange>
         ensures { result_ok result ≡ figures_of self.shared self.joined self.depth }
     {
