@@ -1,8 +1,14 @@
 -- The words of a line, taken one after another from `split`, and what the first of them say of the line.
-use Rattle.std.specs.Prelude.{ℕ, ◌≤◌, ◌≡◌, Option, Some, None, List, [], ◌∷◌, ◌++◌, length, eqb, true, false, is_some}
+use Rattle.std.specs.Prelude.{ℕ, ◌≤◌, ◌≡◌, Option, Some, None, List, [], ◌∷◌, ◌++◌, length, eqb, true, false, is_some, Bool}
 use Rattle.std.proofs.Common.{sym, ◌∙◌, refl, le-leb, append_assoc}
 use Rattle.std.proofs.lemmas.List.{append-nil}
 use Rattle.std.proofs.lemmas.Iterator.{YieldsList}
+use Rattle.std.proofs.lemmas.Iterator.Splits.{YieldsList-from_slice_split}
+use Rattle.std.specs.declared.slice.Split.{Split}
+use Rattle.std.specs.Fn.{CalledAt}
+use Rattle.std.specs.Slice.Iter.{split_rest, split_done, split_callee, split_steps}
+use denote.Param.Members.{Mut}
+use denote.Ref.{Bor}
 use Rattle.std.specs.List.{slice_split}
 use Rattle.text.specs.Numeral.{number_of}
 use Rattle.text.specs.Pieces.{space, onto_first, pieces, words}
@@ -20,13 +26,18 @@ pub record Left {S A : Type 0} (steps : S → Option A → S → Type 0) (v : A 
   pub whole : words line ≡ first ++ others
   pub yields : YieldsList steps v t others
 
-module _ {S A : Type 0} {steps : S → Option A → S → Type 0} {v : A → List ℕ} {t : S} where
-  pub all_left : (line : List ℕ) → YieldsList steps v t (slice_split (λ (b : ℕ). eqb b space) line) → Left steps v line [] t
-  all_left line y = record { others = _; whole = pieces_split space line; yields = y }
+-- where a slice is cut at each space, all its words are left
+pub all_left : {F : Type 0} {t : Split ℕ F} (g : Mut F (Bor ℕ × Unit {0}) Bool) (line : List ℕ) {f : F} → split_rest t ≡ line → split_done t ≡ false → split_callee t ≡ f
+    → ((x : ℕ) (b : Bool) (q : F) → CalledAt g f x b q → (q ≡ f) × (b ≡ eqb x space)) → Left (split_steps g) (λ x. x.now) line [] t
+all_left g line rest done callee test = record {
+  others = _;
+  whole = pieces_split space line;
+  yields = YieldsList-from_slice_split g (λ (b : ℕ). eqb b space) line rest done callee test;
+}
 
 module _ {S A : Type 0} {steps : S → Option A → S → Type 0} {v : A → List ℕ} {line : List ℕ} {first : List (List ℕ)} {t u : S} {r : Option A} where
-  pub taken : Left steps v line first t → steps t r u → {x : A} → r ≡ Some x → Left steps v line (first ++ v x ∷ []) u
-  taken l k {x} e = by l.others l.whole l.yields
+  pub next_word : Left steps v line first t → steps t r u → {x : A} → r ≡ Some x → Left steps v line (first ++ v x ∷ []) u
+  next_word l k {x} e = by l.others l.whole l.yields
     where
       by : (others : List (List ℕ)) → words line ≡ first ++ others → YieldsList steps v t others → Left steps v line (first ++ v x ∷ []) u
       by [] w y = absurd (y.runs _ _ (rw e at k))
@@ -93,4 +104,4 @@ module _ {S A : Type 0} {steps : S → Option A → S → Type 0} {v : A → Lis
     pub four_or_more : (r : Option A) → steps t r u → is_some r ≡ true → None ≡ line_of line
     unfolding from_words
     four_or_more None k e = cc
-    four_or_more (Some x) k e = by_words line fits (taken l k {x = x} refl).whole
+    four_or_more (Some x) k e = by_words line fits (next_word l k {x = x} refl).whole

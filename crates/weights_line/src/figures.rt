@@ -6,6 +6,7 @@ ghost use Rattle.weights_line.specs.Rules.{answer_of, figures_of};
 use crate::Counts;
 use fixed::{FixedPoint, OutOfRange};
 
+// A curvature and a weight in 65,536ths, and the alpha between them.
 #[derive(Clone, Copy, Debug, PartialEq, Eq)]
 pub struct Figures {
     pub curvature: i32,
@@ -13,6 +14,7 @@ pub struct Figures {
     pub weight: i32,
 }
 
+// The figures of a line that was taken.
 #[tactic(auto, unfolding(crate::specs::Rules::answer_of))]
 pub fn answer_to(line: Option<Counts>) -> Option<Figures>
     ensures { result ≡ answer_of line }
@@ -21,6 +23,7 @@ pub fn answer_to(line: Option<Counts>) -> Option<Figures>
 }
 
 impl Counts {
+    #[tactic(auto, using(crate::specs::FigureLaws::bad_counts, crate::specs::FigureLaws::no_bad_weight))]
     fn figures(self) -> Result<Figures, OutOfRange>
         ensures { result_ok result ≡ figures_of self.shared self.joined self.depth }
     {
