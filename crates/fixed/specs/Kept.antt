@@ -1,4 +1,4 @@
--- That `kept` is two's complement: the one number from -2 ^ 31 to 2 ^ 31 - 1 that differs from z by a multiple of 2 ^ 32. And how the code finds it.
+-- That `kept` is two's complement: the one number from -2 ^ 31 to 2 ^ 31 - 1 that differs from z by a multiple of 2 ^ 32.
 use Rattle.std.specs.Prelude.{ℕ, zero, suc, ◌+◌, ◌-◌, ◌*◌, ◌/◌, ◌%◌, ◌^◌, ◌≤◌, ◌<◌, ◌≡◌, refl, true, false, ◌⊎◌, ℤ, pos, negsuc, neg_ℤ, ◌+ℤ◌, ◌-ℤ◌}
 use Rattle.std.proofs.Common.{sym, ap, ◌∙◌, inl, inr, ⊎_elim, arith, lt-ltb, le-ltb, ltb-true, ltb-false}
 use Rattle.std.proofs.Math.Decide.{dec_lt}
@@ -34,7 +34,7 @@ low_neg : (n m : ℕ) → n % 2 ^ 32 ≡ m → low_bits (negsuc n) ≡ 2 ^ 32 - 
 unfolding low_bits
 low_neg n m e = rw e
 
--- ── The code takes the remainder by 2 ^ 32, which has z's sign, and moves it into the range ──
+-- ── The remainder by 2 ^ 32 has z's sign: it is kept as it is where it lies in the range, and else moved by 2 ^ 32 ──
 
 abbrev pub rest : ℤ → ℤ
 rest z = rem_z z (pos (2 ^ 32))

@@ -13,6 +13,7 @@ pub const SCALE: u32 = FixedPoint::SCALE as u32;
 const FLOOR: u32 = FixedPoint::FLOOR as u32;
 
 // The curvature with 65,536 added.
+#[tactic(auto, unfolding(crate::specs::Unsigned::raised, crate::specs::Rules::in_range))]
 pub fn raised(curvature: FixedPoint) -> u32
     requires { in_range curvature.0 ≡ true }
     ensures { result ≡ raised_of curvature.0 }
@@ -21,27 +22,30 @@ pub fn raised(curvature: FixedPoint) -> u32
 }
 
 // The curvature that a raised one stands for.
+#[tactic(auto, unfolding(crate::specs::Unsigned::lowered))]
 pub fn lowered(curvature: u32) -> FixedPoint
     requires { curvature ≤ 2 * scale }
     ensures { result.0 ≡ lowered_of curvature }
 {
-    let number = curvature as i32 - FixedPoint::SCALE;
-    FixedPoint(number)
+    FixedPoint(curvature as i32 - FixedPoint::SCALE)
 }
 
 // The raised curvature of two sets, by how many members they share and how many they have together.
+#[tactic(auto, using(crate::specs::Curvatures::ratio_most), unfolding(crate::specs::Unsigned::raised_curvature))]
 pub fn curvature(shared: u32, joined: u32) -> u32
     requires { shared ≤ joined }
     ensures { result ≡ raised_curvature shared joined }
 {
     if joined == 0 {
-        return SCALE;
+        SCALE
+    } else {
+        let ratio = shared as u64 * SCALE as u64 / joined as u64;
+        2 * ratio as u32
     }
-    let ratio = shared as u64 * SCALE as u64 / joined as u64;
-    2 * ratio as u32
 }
 
 // The weight of an edge of this raised curvature, at an alpha in 65,536ths.
+#[tactic(auto, using(crate::proofs::Fits::times_fits), unfolding(crate::specs::Unsigned::edge_weight))]
 pub fn weight(curvature: u32, alpha: u32) -> u32
     ensures { result ≡ edge_weight alpha curvature }
 {
@@ -49,6 +53,7 @@ pub fn weight(curvature: u32, alpha: u32) -> u32
 }
 
 // p x w / 65,536 cut, where w is a weight.
+#[tactic(auto, using(crate::proofs::Fits::times_fits, crate::specs::Weights::cut_most), unfolding(crate::specs::Unsigned::cut))]
 pub fn product(p: u32, w: u32) -> u32
     requires { w ≤ scale }
     ensures { result ≡ cut p w }
@@ -60,20 +65,12 @@ pub fn product(p: u32, w: u32) -> u32
 pub(crate) fn below_zero(curvature: u32) -> u64
     ensures { result ≡ scale - curvature }
 {
-    if curvature < SCALE {
-        (SCALE - curvature) as u64
-    } else {
-        0
-    }
+    SCALE.saturating_sub(curvature) as u64
 }
 
 // The full weight less a loss, not under the floor.
 pub(crate) fn less(loss: u64) -> u32
     ensures { result ≡ max floor (scale - loss) }
 {
-    if loss < (SCALE - FLOOR) as u64 {
-        SCALE - loss as u32
-    } else {
-        FLOOR
-    }
+    (SCALE as u64).saturating_sub(loss).max(FLOOR as u64) as u32
 }

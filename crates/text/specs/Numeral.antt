@@ -1,8 +1,6 @@
 -- Which strings of bytes are decimal numbers, and what number each stands for. Assumes nothing.
-use Rattle.std.specs.Prelude.{ℕ, ◌+◌, ◌-◌, ◌*◌, ◌^◌, Bool, true, cond, ◌&&◌, List, [], ◌∷◌, length, leb, ltb}
+use Rattle.std.specs.Prelude.{ℕ, ◌+◌, ◌-◌, ◌*◌, ◌^◌, Bool, true, cond, ◌&&◌, Option, Some, None, List, [], ◌∷◌, length, leb, ltb}
 use Prim.Native.Char.{code}
-use Rattle.text.specs.declared.number.Number.{Number}
-use Rattle.text.specs.declared.number.Number.TheVariants.{Value, Bad}
 
 -- the most digits that a number is written with
 abbrev pub most_digits : ℕ
@@ -34,10 +32,10 @@ value_of (b ∷ s) = digit_of b * 10 ^ length s + value_of s
 unfoldable pub is_numeral : List ℕ → Bool
 is_numeral s = leb 1 (length s) && (leb (length s) most_digits && all_digits s)
 
--- a number where a test holds, and bad where it does not
-abbrev pub number_if : Bool → ℕ → Number
-number_if test n = cond test (Value n) Bad
+-- a number where a test holds, and none where it does not
+abbrev pub number_if : Bool → ℕ → Option ℕ
+number_if test n = cond test (Some n) None
 
 -- what a string reads as: its number, where it is written as one and 64 bits hold it
-unfoldable pub number_of : List ℕ → Number
+unfoldable pub number_of : List ℕ → Option ℕ
 number_of s = number_if (is_numeral s && ltb (value_of s) number_limit) (value_of s)

@@ -1,13 +1,12 @@
 -- How a text's pieces go with the place of the byte that parts them. Assumes nothing.
 use Prim.Native.Nat.{ℕ, suc, zero-le, suc-le-suc, ◌-◌, ◌≤◌, ◌<◌}
-use Rattle.std.specs.Prelude.{◌≡◌, Bool, true, false, length, take, drop, eqb, leb}
+use Rattle.std.specs.Prelude.{◌≡◌, Bool, true, false, None, length, take, drop, eqb, leb}
 use Rattle.std.proofs.Math.Path.{refl}
 use Rattle.std.proofs.Common.{ap, ◌∙◌, not-suc-le-zero, le_of_suc-le-suc, le_refl, length-drop, take_all, eqb-true}
 use Rattle.std.proofs.Math.Bool.{and-false}
 use mathlib.Core.List.{List, [], ◌∷◌}
 use Rattle.std.proofs.Common.{one-add}
 use Rattle.text.specs.Cases.{either}
-use Rattle.text.specs.declared.number.Number.TheVariants.{Bad}
 use Rattle.text.specs.Numeral.{is_digit, all_digits, is_numeral, number_of, most_digits}
 use Rattle.text.specs.Pieces.{newline, place_of, onto_first, pieces, all_but_last, finished}
 
@@ -68,7 +67,7 @@ module _ (sep : ℕ) where
       by_test x sep (λ e. rw (eqb-true x sep e, d))
       (λ e. rw (not_all_digits d s (le_of_suc-le-suc (rw (index_miss sep x s e) at h)), and-false (is_digit x)))
 
-  pub no_number : is_digit sep ≡ false → (s : List ℕ) → place_of sep s < length s → number_of s ≡ Bad
+  pub no_number : is_digit sep ≡ false → (s : List ℕ) → place_of sep s < length s → number_of s ≡ None
   unfolding number_of is_numeral
   no_number d s h = rw (not_all_digits d s h, and-false (leb (length s) most_digits), and-false (leb 1 (length s)))
 

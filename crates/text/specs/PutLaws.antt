@@ -4,8 +4,8 @@ use Rattle.std.proofs.Common.{zero-le, sym, ap, ◌∙◌, arith, add_assoc, zer
 use mathlib.Core.List.{List, [], ◌∷◌, ◌++◌, append_assoc, append-nil}
 use Rattle.std.proofs.Math.Nat.{min_comm}
 use Rattle.std.proofs.Math.ListN.{length, drop, drop_of_length-le}
-use Rattle.std.proofs.Math.Seq.{slice, get_or-take, get_or-drop, paste, paste-suc, take-length, append_snoc, take-nil, drop-length}
-use Rattle.std.proofs.lemmas.List.{set_split}
+use Rattle.std.proofs.Math.Seq.{slice, get_or-take, get_or-drop, paste, paste-zero, paste-suc, take-length, append_snoc, take-nil, drop-length}
+use Rattle.std.proofs.lemmas.List.{set_split, drop-take, take-take}
 use borrow.Rule.Slice.PartMut.{mid_of, post_of, put_mid, Post-is}
 use Rattle.std.proofs.lemmas.Bool.{lt-leb}
 use Rattle.text.specs.Cases.{either}
@@ -130,6 +130,28 @@ module _ (buf : List ℕ) (from to most : ℕ) where
   kept_all n e =
       let room : 0 + length part ≤ length buf = omega (arith, part_length) in
       rw (e, take-length part) (ap (λ (k : ℕ). page (over buf 0 part) k) (sym (zero-add (length part))) ∙ put_fits buf 0 part room)
+
+  -- the same moved at once: so many bytes from the place where the part begins, if it has any
+  module _ (start size : ℕ) (at_start : start ≡ min from (min to (length buf))) (at_size : size ≡ min (min to (length buf) - start) most) where
+    same_bytes : from < min to (length buf) → take size (drop start buf) ≡ take size part
+    unfolding part_of
+    same_bytes h =
+        let begins : start ≡ from = omega arith in
+        let ends : from + (to - from) ≡ to = omega arith in
+        let tail : take (to - from) (drop from buf) ≡ slice from to buf = sym (drop-take from (to - from) buf) ∙ ap (λ (n : ℕ). drop from (take n buf)) ends in
+        rw begins (sym (take-take size (to - from) (drop from buf) (omega arith)))
+        ∙ ap (λ (l : List ℕ). take size l) tail
+        ∙ sym (take-take size most (slice from to buf) (omega arith))
+
+    pub kept_moved : page (paste buf 0 (drop start buf) size) size ≡ kept_of buf from to most
+    kept_moved =
+        either (min to (length buf)) from
+        (λ (none : min to (length buf) ≤ from).
+        let empty : size ≡ 0 = omega arith in
+        rw (empty, ← paste-zero buf 0 (drop start buf)) (kept_none none))
+        (λ (some : from < min to (length buf)).
+        let whole : size ≡ length part = omega (arith, part_length) in
+        ap (λ (l : List ℕ). page (l ++ drop (0 + size) buf) size) (same_bytes some) ∙ kept_all size whole)
 
 -- a buffer that is as it was from a place on has what stands before it put at its front
 pub put_front : (first out : List ℕ) (n : ℕ) → n ≤ length out → length out ≡ length first → drop n out ≡ drop n first

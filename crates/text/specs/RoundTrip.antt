@@ -1,9 +1,8 @@
 -- WHAT IS WRITTEN READS BACK: a number's text is a decimal number, and the same one. Assumes nothing.
-use Rattle.std.specs.Prelude.{ℕ, zero, suc, ◌+◌, ◌*◌, ◌/◌, ◌%◌, ◌^◌, ◌≤◌, ◌<◌, ◌≡◌, refl, true, ◌&&◌, List, [], ◌∷◌, ◌++◌, length}
+use Rattle.std.specs.Prelude.{ℕ, zero, suc, ◌+◌, ◌*◌, ◌/◌, ◌%◌, ◌^◌, ◌≤◌, ◌<◌, ◌≡◌, refl, true, ◌&&◌, Some, List, [], ◌∷◌, ◌++◌, length}
 use Rattle.std.proofs.Common.{sym, ◌∙◌, arith, pow-suc, mul_assoc, add-one, length-append, lit≤, le-leb, lt-ltb}
 use Rattle.std.proofs.Math.Bool.{and-true, and_assoc}
 use Rattle.text.specs.Cases.{either}
-use Rattle.text.specs.declared.number.Number.TheVariants.{Value}
 use Rattle.text.specs.Numeral.{most_digits, number_limit, is_digit, digit_of, all_digits, value_of, is_numeral, number_of}
 use Rattle.text.specs.Decimal.{digit_byte, decimal_in, decimal_of}
 use Rattle.text.specs.DecimalLaws.{decimal_one, decimal_more, ten_more, decimal_length}
@@ -53,7 +52,7 @@ decimal_some room n =
     (λ (big : 10 ≤ n). rw (decimal_more room n big, length-append (decimal_in room (n / 10)) (digit_byte (n % 10) ∷ [])) (omega arith))
     (λ (small : n < 10). rw (decimal_one room n small) (lit≤ tt))
 
-pub reads_back : (n : ℕ) → n < number_limit → number_of (decimal_of n) ≡ Value n
+pub reads_back : (n : ℕ) → n < number_limit → number_of (decimal_of n) ≡ Some n
 unfolding number_of is_numeral
 reads_back n h =
     let low = decimal_some 19 n in

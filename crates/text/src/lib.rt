@@ -10,6 +10,6 @@ mod number;
 mod place;
 mod put;
 
-pub use number::{Number, read_number};
+pub use number::read_number;
 pub use place::{keep, place_of};
 pub use put::{put_byte, put_bytes, put_decimal, put_signed};

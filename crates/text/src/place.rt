@@ -1,5 +1,5 @@
 // Where things stand in a buffer.
-ghost use Rattle.std.specs.Prelude.{◌≡◌, min};
+ghost use Rattle.std.specs.Prelude.{◌≡◌};
 ghost use Rattle.text.specs.Pieces.{place_of};
 ghost use Rattle.text.specs.Put.{page, kept_of};
 
@@ -7,12 +7,7 @@ ghost use Rattle.text.specs.Put.{page, kept_of};
 pub fn place_of(s: &[u8], b: u8) -> usize
     ensures { result ≡ place_of b s.now }
 {
-    for (i, x) in s.iter().enumerate() {
-        if *x == b {
-            return i;
-        }
-    }
-    s.len()
+    s.iter().position(|x| *x == b).unwrap_or(s.len())
 }
 
 // Moves the bytes from `from` up to `to` to the front of buf, at most `most` of them, and gives their
@@ -20,21 +15,9 @@ pub fn place_of(s: &[u8], b: u8) -> usize
 pub fn keep(buf: &mut [u8], from: usize, to: usize, most: usize) -> usize
     ensures { page buf.new result ≡ kept_of buf.old from to most }
 {
-    let end = least(to, buf.len());
-    if end <= from {
-        return 0;
-    }
-    let n = least(end - from, most);
-    let mut i = 0;
-    while i < n {
-        buf[i] = buf[from + i];
-        i += 1;
-    }
-    n
-}
-
-fn least(a: usize, b: usize) -> usize
-    ensures { result ≡ min a b }
-{
-    if a < b { a } else { b }
+    let end = to.min(buf.len());
+    let start = from.min(end);
+    let size = (end - start).min(most);
+    buf.copy_within(start..start + size, 0);
+    size
 }

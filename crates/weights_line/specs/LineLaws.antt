@@ -1,5 +1,5 @@
--- A line by the places of its first two spaces, as the code takes it apart. Assumes nothing.
-use Rattle.std.specs.Prelude.{ℕ, suc, ◌+◌, ◌≤◌, ◌<◌, ◌≡◌, refl, List, ◌∷◌, length, take, drop, leb}
+-- A line by the places of its first two spaces.
+use Rattle.std.specs.Prelude.{ℕ, suc, ◌+◌, ◌≤◌, ◌<◌, ◌≡◌, refl, Option, Some, None, List, ◌∷◌, length, take, drop, leb}
 use Rattle.std.proofs.Math.Path.{sym, ap}
 use Rattle.std.proofs.Common.{◌∙◌, add-one}
 use Rattle.std.proofs.Math.Bool.{and-false}
@@ -7,42 +7,39 @@ use borrow.Author.Tests.{le-leb, lt-leb}
 use Rattle.text.specs.Numeral.{number_of, is_digit}
 use Rattle.text.specs.Pieces.{space, place_of, words}
 use Rattle.text.specs.PieceLaws.{pieces_one, pieces_more, by_place, no_number}
-use Rattle.text.specs.declared.number.Number.{Number}
-use Rattle.text.specs.declared.number.Number.TheVariants as number
-use Rattle.weights_line.specs.declared.line.Line.TheVariants as line
 use Rattle.weights_line.specs.Rules.{most_bytes, most_joined, counts_of, from_words, line_of}
 
--- three numbers, in the order of the code's tests
+-- three numbers as counts
 module _ (s j d : ℕ) where
-  pub above : j < s → line.Bad ≡ counts_of (number.Value s) (number.Value j) (number.Value d)
+  pub above : j < s → None ≡ counts_of (Some s) (Some j) (Some d)
   unfolding counts_of
   above h = rw (lt-leb s j h)
 
-  pub over : most_joined < j → line.Bad ≡ counts_of (number.Value s) (number.Value j) (number.Value d)
+  pub over : most_joined < j → None ≡ counts_of (Some s) (Some j) (Some d)
   unfolding counts_of
   over h = rw (lt-leb j most_joined h, and-false (leb s j))
 
-  pub taken : s ≤ j → j ≤ most_joined → line.Counts s j d ≡ counts_of (number.Value s) (number.Value j) (number.Value d)
+  pub taken : s ≤ j → j ≤ most_joined → Some (record { shared = s; joined = j; depth = d }) ≡ counts_of (Some s) (Some j) (Some d)
   unfolding counts_of
   taken h k = rw (le-leb s j h, le-leb j most_joined k)
 
-pub no_shared : (j d : Number) → line.Bad ≡ counts_of number.Bad j d
+pub no_shared : (j d : Option ℕ) → None ≡ counts_of None j d
 unfolding counts_of
 no_shared j d = refl
 
-pub no_joined : (s d : Number) → line.Bad ≡ counts_of s number.Bad d
+pub no_joined : (s d : Option ℕ) → None ≡ counts_of s None d
 unfolding counts_of
-no_joined number.Bad d = refl
-no_joined (number.Value s) d = refl
+no_joined None d = refl
+no_joined (Some s) d = refl
 
-pub no_depth : (s j : Number) → line.Bad ≡ counts_of s j number.Bad
+pub no_depth : (s j : Option ℕ) → None ≡ counts_of s j None
 unfolding counts_of
-no_depth number.Bad j = refl
-no_depth (number.Value s) number.Bad = refl
-no_depth (number.Value s) (number.Value j) = refl
+no_depth None j = refl
+no_depth (Some s) None = refl
+no_depth (Some s) (Some j) = refl
 
 -- what stands after a third space makes four words or more
-four : (a b c d : List ℕ) → from_words (a ∷ b ∷ c ∷ words d) ≡ line.Bad
+four : (a b c d : List ℕ) → from_words (a ∷ b ∷ c ∷ words d) ≡ None
 unfolding from_words
 four a b c d = by_place space d (λ h. rw (pieces_one space d h)) (λ h. rw (pieces_more space d h))
 
@@ -56,7 +53,7 @@ third a b c =
     (four a b (take (place_of space c) c) (drop (suc (place_of space c)) c) ∙ no_depth (number_of a) (number_of b)))
 
 module _ (s : List ℕ) where
-  pub too_long : most_bytes < length s → line.Bad ≡ line_of s
+  pub too_long : most_bytes < length s → None ≡ line_of s
   unfolding line_of
   too_long h = rw (lt-leb (length s) most_bytes h)
 
@@ -64,7 +61,7 @@ module _ (s : List ℕ) where
   unfolding line_of
   by_words h = rw (le-leb (length s) most_bytes h)
 
-  pub one_word : length s ≤ most_bytes → length s ≤ place_of space s → line.Bad ≡ line_of s
+  pub one_word : length s ≤ most_bytes → length s ≤ place_of space s → None ≡ line_of s
   unfolding from_words
   one_word h i = sym (by_words h ∙ ap from_words (pieces_one space s i))
 
@@ -76,11 +73,11 @@ module _ (s : List ℕ) where
         ∙ ap from_words (pieces_more space s (rw at_i at inside))
         ∙ rw (after-i, add-one i, at_i)
 
-    pub two_words : length rest ≤ place_of space rest → line.Bad ≡ line_of s
+    pub two_words : length rest ≤ place_of space rest → None ≡ line_of s
     unfolding from_words
     two_words h = sym (from_rest ∙ rw (pieces_one space rest h))
 
-    pub three_words : {j : ℕ} {last : List ℕ} {a b c : Number} → j ≡ place_of space rest → j < length rest → last ≡ drop (j + 1) rest
+    pub three_words : {j : ℕ} {last : List ℕ} {a b c : Option ℕ} → j ≡ place_of space rest → j < length rest → last ≡ drop (j + 1) rest
         → a ≡ number_of (take i s) → b ≡ number_of (take j rest) → c ≡ number_of last → counts_of a b c ≡ line_of s
     three_words {j} at_j within after-j first second final =
         rw (first, second, final, after-j, add-one j)

@@ -6,5 +6,5 @@
 mod figures;
 mod line;
 
-pub use figures::{Answer, answer_to};
-pub use line::{Line, parse};
+pub use figures::{Figures, answer_to};
+pub use line::{Counts, parse};

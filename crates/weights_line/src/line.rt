@@ -1,17 +1,13 @@
 // A line taken apart into its three numbers.
-ghost use Rattle.std.specs.Prelude.{◌≡◌};
+ghost use Rattle.std.specs.Prelude.{◌≡◌, Some};
 ghost use Rattle.weights_line.specs.Rules.{line_of, counts_of};
 
-use text::Number;
-
-#[derive(Clone, Copy)]
-pub enum Line {
-    Counts {
-        shared: u32,
-        joined: u32,
-        depth: u64,
-    },
-    Bad,
+// How many members two sets share and how many they have together, and a depth.
+#[derive(Clone, Copy, Debug, PartialEq, Eq)]
+pub struct Counts {
+    pub shared: u32,
+    pub joined: u32,
+    pub depth: u64,
 }
 
 const MOST_BYTES: usize = 80;
@@ -19,49 +15,34 @@ const MOST_BYTES: usize = 80;
 const MOST_JOINED: u64 = 544;
 
 // The three counts of a line, its newline not among its bytes.
-pub fn parse(line: &[u8]) -> Line
+pub fn parse(line: &[u8]) -> Option<Counts>
     ensures { result ≡ line_of line.now }
 {
     if MOST_BYTES < line.len() {
-        return Line::Bad;
+        return None;
     }
-    let first = text::place_of(line, b' ');
-    if line.len() <= first {
-        return Line::Bad;
+    let mut words = line.split(|byte| *byte == b' ');
+    let shared = text::read_number(words.next()?)?;
+    let joined = text::read_number(words.next()?)?;
+    let depth = text::read_number(words.next()?)?;
+    if words.next().is_some() {
+        return None;
     }
-    let rest = &line[first + 1..];
-    let second = text::place_of(rest, b' ');
-    if rest.len() <= second {
-        return Line::Bad;
-    }
-    let shared = text::read_number(&line[..first]);
-    let joined = text::read_number(&rest[..second]);
-    let depth = text::read_number(&rest[second + 1..]);
-    counts(shared, joined, depth)
+    checked(shared, joined, depth)
 }
 
 // Three numbers as counts, where they can be those of two sets.
-fn counts(shared: Number, joined: Number, depth: Number) -> Line
-    ensures { result ≡ counts_of shared joined depth }
+#[tactic(auto, unfolding(crate::specs::Rules::counts_of))]
+fn checked(shared: u64, joined: u64, depth: u64) -> Option<Counts>
+    ensures { result ≡ counts_of (Some shared) (Some joined) (Some depth) }
 {
-    let Number::Value(shared) = shared else {
-        return Line::Bad;
-    };
-    let Number::Value(joined) = joined else {
-        return Line::Bad;
-    };
-    let Number::Value(depth) = depth else {
-        return Line::Bad;
-    };
-    if joined < shared {
-        return Line::Bad;
-    }
-    if MOST_JOINED < joined {
-        return Line::Bad;
-    }
-    Line::Counts {
-        shared: shared as u32,
-        joined: joined as u32,
-        depth,
+    if shared <= joined && joined <= MOST_JOINED {
+        Some(Counts {
+            shared: shared as u32,
+            joined: joined as u32,
+            depth,
+        })
+    } else {
+        None
     }
 }

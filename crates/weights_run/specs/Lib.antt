@@ -3,4 +3,5 @@ pub mod Stream
 pub mod OutputLaws
 pub mod StreamLaws
 pub mod Whole
+pub mod Reads
 pub mod Examples

@@ -1,5 +1,5 @@
 -- A row put part by part, and how long an answer is. Assumes nothing.
-use Rattle.std.specs.Prelude.{ℕ, ◌+◌, ◌*◌, ◌≤◌, ◌<◌, ◌≡◌, List, ◌++◌, length, ℤ, nat_abs}
+use Rattle.std.specs.Prelude.{ℕ, ◌+◌, ◌*◌, ◌≤◌, ◌<◌, ◌≡◌, Option, Some, None, List, ◌++◌, length, ℤ, nat_abs}
 use Rattle.std.proofs.Common.{arith, length-append, lit≤, le-leb, leb-true}
 use Rattle.std.proofs.lemmas.Bool.{lt-leb}
 use Rattle.text.specs.Cases.{either}
@@ -14,10 +14,8 @@ use Rattle.text.specs.DecimalLaws.{decimal_length, signed_length}
 use Rattle.text.specs.Put.{page, put_at}
 use Rattle.text.specs.PutLaws.{front_fits, put_put}
 use Rattle.weights_line.specs.Rules.{figures_of, answer_of}
-use Rattle.weights_line.specs.declared.line.Line.{Line}
-use Rattle.weights_line.specs.declared.line.Line.TheVariants as line
-use Rattle.weights_line.specs.declared.figures.Answer.{Answer}
-use Rattle.weights_line.specs.declared.figures.Answer.TheVariants.{Figures, Bad}
+use Rattle.weights_line.specs.declared.line.Counts.{Counts}
+use Rattle.weights_line.specs.declared.figures.Figures.{Figures}
 use Rattle.weights_run.specs.Output.{row_of, text_of}
 use Rattle.weights_run.specs.Stream.{room_each}
 
@@ -71,16 +69,16 @@ figures_length s j d =
     either s j (λ (h : s ≤ j). rw (le-leb s j h) (served_length s j d h)) (λ (h : j < s). rw (lt-leb s j h) (lit≤ tt))
 
 -- an answer has room in its 16 bytes
-pub answer_fits : (l : Line) → length (text_of (answer_of l)) ≤ room_each
+pub answer_fits : (l : Option Counts) → length (text_of (answer_of l)) ≤ room_each
 unfolding answer_of text_of
-answer_fits line.Bad = lit≤ tt
-answer_fits (line.Counts s j d) = figures_length s j d
+answer_fits None = lit≤ tt
+answer_fits (Some counts) = figures_length counts.shared counts.joined counts.depth
 
 -- the text of an answer, by its case
-pub figures_row : {r : Answer} {k w : ℤ} {a : ℕ} → r ≡ Figures k a w → {k' w' : ℤ} → k' ≡ k → w' ≡ w → row_of k' a w' ≡ text_of r
+pub figures_row : {r : Option Figures} {k w : ℤ} {a : ℕ} → r ≡ Some (record { curvature = k; alpha = a; weight = w }) → {k' w' : ℤ} → k' ≡ k → w' ≡ w → row_of k' a w' ≡ text_of r
 unfolding text_of
 figures_row e e₁ e₂ = rw (e, e₁, e₂)
 
-pub bad_text : {r : Answer} → r ≡ Bad → ascii "bad\n" ≡ text_of r
+pub bad_text : {r : Option Figures} → r ≡ None → ascii "bad\n" ≡ text_of r
 unfolding text_of
 bad_text e = rw e

@@ -1,13 +1,11 @@
 -- One step of `weights`: which lines it answers, and what it keeps for the next.
-use Rattle.std.specs.Prelude.{ℕ, ◌+◌, ◌/◌, ◌≤◌, List, [], ◌∷◌, ◌++◌, length, take, drop}
+use Rattle.std.specs.Prelude.{ℕ, ◌+◌, ◌/◌, List, [], ◌∷◌, ◌++◌, length, take, drop}
 use Rattle.text.specs.Pieces.{finished, last_line}
 use Rattle.text.specs.Put.{Page, page, put_at, kept_of}
 use Rattle.weights_line.specs.Rules.{most_bytes}
 use Rattle.weights_run.specs.Output.{answers_to}
 use Rattle.weights_run.specs.declared.lines.Answered as lines
 use Rattle.weights_run.specs.declared.lines.Step as steps
-use Rattle.weights_run.specs.declared.stream.Turn as stream
-use Rattle.weights_run.specs.declared.stream.Turn.TheVariants as turn
 
 -- the room in the output for each line's answer
 abbrev pub room_each : ℕ
@@ -49,12 +47,6 @@ step_of input filled out =
 
 abbrev pub stepped : steps.Step → List ℕ → List ℕ → Stepped
 stepped r input out = record { input = page input r.kept; output = page out r.written }
-
--- what is kept after a read lies within the input's buffer
-abbrev pub Kept : stream.Turn → List ℕ → Type 0
-Kept (turn.More n) input = n ≤ length input
-Kept turn.End input = Unit {0}
-Kept turn.Failed input = Unit {0}
 
 -- ── All steps, one after the other ──
 

@@ -50,7 +50,7 @@ unfolding bytes_of
 all_begun s h = rw (finished_none s h)
 
 -- what is begun has no newline
-begun_without : (n : ℕ) (s : List ℕ) → length s ≤ n → Without newline (begun s)
+pub begun_without : (n : ℕ) (s : List ℕ) → length s ≤ n → Without newline (begun s)
 begun_without zero s g = by_place newline s (λ h. rw (all_begun s h) h) (λ h. absurd (not-suc-le-zero (le_trans h g)))
 begun_without (suc n) s g =
     by_place newline s (λ h. rw (all_begun s h) h)
@@ -81,7 +81,7 @@ parted (suc n) s rest g =
     by_place newline s (parted_none s rest)
     (λ h. parted_more s rest h (parted n (drop (suc (place_of newline s)) s) rest (fewer s rest h n g)))
 
-parted_is : (s rest : List ℕ) → answers_to (lines_of (s ++ rest)) ≡ answers_to (finished s) ++ answers_to (lines_of (begun s ++ rest))
+pub parted_is : (s rest : List ℕ) → answers_to (lines_of (s ++ rest)) ≡ answers_to (finished s) ++ answers_to (lines_of (begun s ++ rest))
 unfolding Parted
 parted_is s rest = parted (length s) s rest (le_refl (length s))
 
@@ -119,7 +119,7 @@ module _ (b : List ℕ) (no-newline : Without newline b) (long : most_bytes < le
       )
 
 -- so of such a line it is enough to keep 81 bytes
-kept_same : (b : List ℕ) → Without newline b → (rest : List ℕ) → answers_to (lines_of (take most_kept b ++ rest)) ≡ answers_to (lines_of (b ++ rest))
+pub kept_same : (b : List ℕ) → Without newline b → (rest : List ℕ) → answers_to (lines_of (take most_kept b ++ rest)) ≡ answers_to (lines_of (b ++ rest))
 kept_same b h rest =
     either (length b) most_kept (λ (short : length b ≤ most_kept). rw (take_all most_kept b short))
     (λ (long : most_kept < length b).
@@ -166,7 +166,7 @@ answers_length (line ∷ more) =
     rw (length-append (answer_line line) (answers_to more)) (omega (arith, line_fits line, answers_length more))
 
 -- a text that fits at the front of a buffer is what the buffer then holds
-front_holds : (out s : List ℕ) → length s ≤ length out → filled_part (put_at out 0 s) ≡ s
+pub front_holds : (out s : List ℕ) → length s ≤ length out → filled_part (put_at out 0 s) ≡ s
 front_holds out s h = rw (← put_fits out 0 s (omega arith)) (take_over out 0 s zero-le)
 
 -- A STEP writes and keeps what `written` says, where the output has 16 bytes for each byte of the input

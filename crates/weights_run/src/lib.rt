@@ -4,4 +4,4 @@
 mod lines;
 mod stream;
 
-pub use stream::run;
+pub use stream::{answer_all, run};

@@ -6,7 +6,7 @@ ghost use Rattle.text.specs.Put.{page, put_at};
 ghost use Rattle.weights_run.specs.Output.{row_of, text_of, answer_line};
 ghost use Rattle.weights_run.specs.Stream.{room_each, answered, answered_of, stepped, step_of};
 
-use weights_line::Answer;
+use weights_line::Figures;
 
 // The room in the output for each line's answer, which has at most 15 bytes.
 const ROOM_EACH: usize = 16;
@@ -44,17 +44,16 @@ pub(crate) fn advance(input: &mut [u8], filled: usize, out: &mut [u8]) -> Step
 fn answer_lines(part: &[u8], out: &mut [u8]) -> Answered
     ensures { answered result out.new ≡ answered_of part.now out.old }
 {
-    let mut left = out.len() / ROOM_EACH;
     let mut used = 0;
     let mut written = 0;
-    while 0 < left {
-        let size = text::place_of(&part[used..], b'\n');
-        if part.len() - used <= size {
-            return Answered { used, written };
+    for _ in 0..out.len() / ROOM_EACH {
+        let rest = &part[used..];
+        let size = text::place_of(rest, b'\n');
+        if rest.len() <= size {
+            break;
         }
-        written = answer_line(&part[used..used + size], out, written);
+        written = answer_line(&rest[..size], out, written);
         used += size + 1;
-        left -= 1;
     }
     Answered { used, written }
 }
@@ -66,28 +65,24 @@ pub(crate) fn answer_line(line: &[u8], out: &mut [u8], at: usize) -> usize
     put_answer(out, at, weights_line::answer_to(weights_line::parse(line)))
 }
 
-fn put_answer(out: &mut [u8], at: usize, answer: Answer) -> usize
+fn put_answer(out: &mut [u8], at: usize, answer: Option<Figures>) -> usize
     requires { at + length (text_of answer) ≤ length out.old }
     ensures { page out.new result ≡ put_at out.old at (text_of answer) }
 {
     match answer {
-        Answer::Figures {
-            curvature,
-            alpha,
-            weight,
-        } => put_figures(out, at, curvature, alpha, weight),
-        Answer::Bad => text::put_bytes(out, at, b"bad\n"),
+        Some(figures) => put_figures(out, at, figures),
+        None => text::put_bytes(out, at, b"bad\n"),
     }
 }
 
-fn put_figures(out: &mut [u8], at: usize, curvature: i32, alpha: u32, weight: i32) -> usize
-    requires { at + length (row_of curvature alpha weight) ≤ length out.old }
-    ensures { page out.new result ≡ put_at out.old at (row_of curvature alpha weight) }
+fn put_figures(out: &mut [u8], at: usize, figures: Figures) -> usize
+    requires { at + length (row_of figures.curvature figures.alpha figures.weight) ≤ length out.old }
+    ensures { page out.new result ≡ put_at out.old at (row_of figures.curvature figures.alpha figures.weight) }
 {
-    let after_curvature = text::put_signed(out, at, curvature);
+    let after_curvature = text::put_signed(out, at, figures.curvature);
     let space = text::put_byte(out, after_curvature, b' ');
-    let after_alpha = text::put_decimal(out, space, alpha as u64);
+    let after_alpha = text::put_decimal(out, space, u64::from(figures.alpha));
     let second_space = text::put_byte(out, after_alpha, b' ');
-    let after_weight = text::put_signed(out, second_space, weight);
+    let after_weight = text::put_signed(out, second_space, figures.weight);
     text::put_byte(out, after_weight, b'\n')
 }

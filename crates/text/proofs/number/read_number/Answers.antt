@@ -1,38 +1,29 @@
-use mathlib.Core.Path.{sym, ◌∙◌}
-use native.Mathlib.Omega.{arith}
+use Rattle.std.proofs.Common.{◌≤◌, length, arith, rules, sym, ◌∙◌, lit<}
+use Rattle.std.proofs.lemmas.Bool.Decides.{nat_tests}
 use Rattle.text.specs.Reading.{reads, read_bad, read_end, read_more, too_short, too_long}
-use borrow.Author.Rules.{rules}
 use Rattle.text.proofs.number.read_number.Goals as goal
+use Rattle.text.proofs.number.read_number.Goals.{then-is_empty-via-then-is_empty, then-is_empty-via-else-is_empty+then-s-gt-MOST_DIGITS}
 
-pub returns-then-s-eq0 : goal.returns-then-s-eq0
-returns-then-s-eq0 c = too_short _ c.if-s-eq0.true
+pub returns-then-is_empty : goal.returns-then-is_empty
+returns-then-is_empty c =
+    elim c.then-is_empty.branch [
+      | then-is_empty-via-then-is_empty w ↦ too_short _ (search rules)
+      | then-is_empty-via-else-is_empty+then-s-gt-MOST_DIGITS w ↦ too_long _ (omega arith)
+    ]
 
-pub returns-then-s-gt-MOST_DIGITS : goal.returns-then-s-gt-MOST_DIGITS
-returns-then-s-gt-MOST_DIGITS c = too_long _ c.if-s-gt-MOST_DIGITS.true
+pub loop-byte-init : goal.loop-byte-init
+loop-byte-init c =
+    let some : 1 ≤ length c.args.s.now = grind (arith, nat_tests, c.if-is_empty.ensures) in
+    (lit< tt, sym (reads _ some (omega arith)))
 
-pub loop-i-init : goal.loop-i-init
-loop-i-init c = (search rules, (search rules, sym (reads _ (omega arith) (omega arith))))
+pub returns-in_err-value : goal.returns-in_err-value
+returns-in_err-value c =
+    let bad = read_bad c.args.s.now c.loop-byte.byte-index c.loop-byte.value (omega arith) c.in_err-value.ensures in
+    c.from_residual.ensures ∙ sym (c.loop-byte.invariant.1 ∙ bad)
 
-pub returns-in_default : goal.returns-in_default
-returns-in_default c =
-    let with-digit = c.with_digit in
-    let the-loop = c.loop-i in
-    let args = c.args in
-    let loop-test = c.loop-i-test in
-    let e = sym c.in_default.is ∙ with-digit.ensures in
-    sym (the-loop.invariant.1.1 ∙ read_bad args.s.now the-loop.i the-loop.value loop-test.true e)
-
-pub loop-i-preserved : goal.loop-i-preserved
-loop-i-preserved c =
-    let with-digit = c.with_digit in
-    let the-loop = c.loop-i in
-    let args = c.args in
-    let loop-test = c.loop-i-test in
-    let e = sym c.in-Value.is ∙ with-digit.ensures in
-    (search rules, (search rules, the-loop.invariant.1.1 ∙ read_more args.s.now the-loop.i the-loop.value _ loop-test.true e))
+pub loop-byte-preserved : goal.loop-byte-preserved
+loop-byte-preserved c =
+    (search rules, c.loop-byte.invariant.1 ∙ read_more c.args.s.now c.loop-byte.byte-index c.loop-byte.value _ (omega arith) c.in_ok-value.ensures)
 
 pub returns : goal.returns
-returns c =
-    let the-loop = c.loop-i in
-    let args = c.args in
-    sym (the-loop.invariant.1.1 ∙ read_end args.s.now the-loop.i the-loop.value (omega arith))
+returns c = sym (c.loop-byte.invariant.1 ∙ read_end c.args.s.now c.loop-byte.byte-index c.loop-byte.value (omega arith))

@@ -1,20 +1,19 @@
--- `text::number::with_digit` meets its contract: each test that led to a `return` picks the case of `with_digit`.
--- Assumes nothing.
-use native.Mathlib.Omega.{arith}
-use Rattle.text.specs.Reading.{digit_low, digit_high, digit_wide, digit_fits}
+use Rattle.std.proofs.Common.{arith}
+use Rattle.text.specs.Cases.{either}
+use Rattle.text.specs.Reading.{digit_low, digit_high, digit_wide, digit_checked}
 use Rattle.text.proofs.number.with_digit.Goals as goal
 
-pub returns-then-byte-lt48 : goal.returns-then-byte-lt48
-returns-then-byte-lt48 c = digit_low _ _ c.if-byte-lt48.true
+pub returns-then-not-is_ascii_digit : goal.returns-then-not-is_ascii_digit
+returns-then-not-is_ascii_digit c =
+    let other = c.if-not-is_ascii_digit.ensures.cases in
+    either 48 c.args.byte (λ low. digit_high _ _ (omega (arith, other))) (λ h. digit_low _ _ h)
 
-pub returns-then-byte-gt57 : goal.returns-then-byte-gt57
-returns-then-byte-gt57 c = digit_high _ _ c.if-byte-gt57.true
-
-pub returns-then-value-gt-TENTH : goal.returns-then-value-gt-TENTH
-returns-then-value-gt-TENTH c = digit_wide _ _ (omega arith)
-
-pub returns-then-tens-digit : goal.returns-then-tens-digit
-returns-then-tens-digit c = digit_wide _ _ (omega arith)
+pub returns-in_err-tens : goal.returns-in_err-tens
+returns-in_err-tens c =
+    let wide = digit_wide c.args.value c.args.byte (omega (arith, c.in_err-tens.ensures)) in
+    cc
 
 pub returns : goal.returns
-returns c = digit_fits _ _ (omega arith) (omega arith) (omega arith)
+returns c =
+    let digit = c.if-not-is_ascii_digit.ensures.cases in
+    digit_checked c.args.value c.args.byte _ (omega (arith, digit)) (omega (arith, digit)) (rw (c.in_ok-tens.ensures.1, c.from.ensures) at c.checked_add.ensures)

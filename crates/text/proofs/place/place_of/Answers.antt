@@ -1,15 +1,21 @@
-use Rattle.std.proofs.Common.{ℕ, eqb, eq-eqb, sym, arith, below_more}
-use Rattle.std.proofs.lemmas.List.Sums.{position_or_len_is}
+use Rattle.std.proofs.Common.{◌≡◌, ℕ, ◌<◌, ◌≤◌, List, length, eqb, unwrap_or, le-ltb, lt-ltb, rules, tests, arith}
+use Rattle.std.proofs.lemmas.Iterator.{YieldsList-from_slice}
+use Rattle.std.proofs.lemmas.Iterator.Search.{position_from_yields_List}
+use Rattle.std.specs.List.{position}
+use Rattle.text.specs.Cases.{either}
+use Rattle.text.specs.Pieces.{place_of}
+use Rattle.text.specs.PieceLaws.{index_most}
 use Rattle.text.proofs.place.place_of.Goals as goal
 
-pub returns-then-x-b : goal.returns-then-x-b
-returns-then-x-b c =
-    sym (position_or_len_is (λ (x : ℕ). eqb x c.args.b) c.args.s.now c.loop-i.i 0 (omega arith) c.loop-i.invariant (λ h. eq-eqb _ _ c.if-x-b.true))
-
-pub loop-i-preserved : goal.loop-i-preserved
-loop-i-preserved c = below_more _ _ c.loop-i.invariant (grind arith)
+-- the place that `position` finds, or the length where it finds none
+found : (b : ℕ) (s : List ℕ) → unwrap_or (position (λ (x : ℕ). eqb x b) s) (length s) ≡ place_of b s
+found b s =
+    either (length s) (place_of b s)
+    (λ (none : length s ≤ place_of b s). let last : length s ≡ place_of b s = omega (arith, index_most b s) in rw (le-ltb (place_of b s) (length s) none) last)
+    (λ (some : place_of b s < length s). rw (lt-ltb (place_of b s) (length s) some))
 
 pub returns : goal.returns
 returns c =
-    sym
-    (position_or_len_is (λ (x : ℕ). eqb x c.args.b) c.args.s.now _ 0 (omega arith) (λ k h. c.loop-i.invariant k (omega arith)) (λ h. absurd (omega arith)))
+    let at : c.position.result ≡ position (λ (x : ℕ). eqb x c.args.b) c.args.s.now =
+    position_from_yields_List (λ (x : ℕ). eqb x c.args.b) _ _ c.position.result c.position.ensures.ran (YieldsList-from_slice c.args.s.now cc) (λ x b q k. search (rules, tests)) in
+    rw (c.unwrap_or.ensures, at) (found c.args.b c.args.s.now)

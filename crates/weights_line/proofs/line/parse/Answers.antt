@@ -1,65 +1,59 @@
--- `weights_line::line::parse` meets its contract: the places of the first two spaces part the line's words.
--- Assumes nothing.
-use Prim.Native.Nat.{◌+◌}
-use mathlib.Core.Path.{sym, ◌∙◌}
-use native.Mathlib.Omega.{arith}
-use lib.Seq.{length-take-le}
-use Rattle.text.specs.PieceLaws.{from_on}
-use Rattle.weights_line.specs.LineLaws.{too_long, one_word, two_words, three_words}
+-- `weights_line::line::parse` meets its contract: the words that `split` has given so far are the first of the line's.
+use Rattle.std.proofs.Common.{rules, tests, sym, ◌∙◌}
+use Rattle.weights_line.specs.LineLaws.{too_long}
+use Rattle.weights_line.proofs.Words.{all_left, next_word, bad_first, one_only, bad_second, two_only, bad_third, three_only, four_or_more}
 use Rattle.weights_line.proofs.line.parse.Goals as goal
 
 pub returns-then-line-gt-MOST_BYTES : goal.returns-then-line-gt-MOST_BYTES
-returns-then-line-gt-MOST_BYTES c =
-    let if1 = c.if-line-gt-MOST_BYTES in
-    too_long _ if1.true
+returns-then-line-gt-MOST_BYTES c = too_long _ c.if-line-gt-MOST_BYTES.true
 
-pub returns-then-line-first : goal.returns-then-line-first
-returns-then-line-first c =
-    let args = c.args in
-    let if1 = c.if-line-gt-MOST_BYTES in
-    let place_of = c.place_of-first in
-    let if2 = c.if-line-first in
-    let line = args.line.now in
-    one_word line if1.false (rw place_of.ensures at if2.true)
+pub returns-in_err-shared : goal.returns-in_err-shared
+returns-in_err-shared c =
+    let split = c.split-words.ensures in
+    let one = next_word (all_left _ c.args.line.now split.rest split.done split.closure (λ x r q k. search (rules, tests))) c.next.ensures.steps c.in_ok-next.was in
+    c.from_residual-in_err-shared.ensures ∙ bad_first c.if-line-gt-MOST_BYTES.false one c.in_err-shared.ensures
 
-pub returns-then-rest-second : goal.returns-then-rest-second
-returns-then-rest-second c =
-    let args = c.args in
-    let place_of = c.place_of-first in
-    let if1 = c.if-line-gt-MOST_BYTES in
-    let if2 = c.if-line-first in
-    let place-of2 = c.place_of-second in
-    let if3 = c.if-rest-second in
-    let line = args.line.now in
-    let first = place_of.result in
-    two_words line if1.false place_of.ensures if2.false (from_on (first + 1) line) (rw place-of2.ensures at if3.true)
+pub returns-in_err-next-2 : goal.returns-in_err-next-2
+returns-in_err-next-2 c =
+    let split = c.split-words.ensures in
+    let one = next_word (all_left _ c.args.line.now split.rest split.done split.closure (λ x r q k. search (rules, tests))) c.next.ensures.steps c.in_ok-next.was in
+    c.from_residual-in_err-next-2.ensures ∙ one_only c.if-line-gt-MOST_BYTES.false one _ c.next-2.ensures.steps c.in_err-next-2.was
 
-pub slice_bounds-read_number-end : goal.slice_bounds-read_number-end
-slice_bounds-read_number-end c =
-    let place_of = c.place_of-first in
-    let args = c.args in
-    sym (length-take-le place_of.result args.line.now (omega arith))
+pub returns-in_err-joined : goal.returns-in_err-joined
+returns-in_err-joined c =
+    let split = c.split-words.ensures in
+    let one = next_word (all_left _ c.args.line.now split.rest split.done split.closure (λ x r q k. search (rules, tests))) c.next.ensures.steps c.in_ok-next.was in
+    let two = next_word one c.next-2.ensures.steps c.in_ok-next-2.was in
+    c.from_residual-in_err-joined.ensures ∙ bad_second c.if-line-gt-MOST_BYTES.false two c.in_err-joined.ensures
 
-pub slice_bounds-read_number-end-2 : goal.slice_bounds-read_number-end-2
-slice_bounds-read_number-end-2 c =
-    let place-of2 = c.place_of-second in
-    sym (length-take-le place-of2.result _ (omega arith))
+pub returns-in_err-next-3 : goal.returns-in_err-next-3
+returns-in_err-next-3 c =
+    let split = c.split-words.ensures in
+    let one = next_word (all_left _ c.args.line.now split.rest split.done split.closure (λ x r q k. search (rules, tests))) c.next.ensures.steps c.in_ok-next.was in
+    let two = next_word one c.next-2.ensures.steps c.in_ok-next-2.was in
+    c.from_residual-in_err-next-3.ensures ∙ two_only c.if-line-gt-MOST_BYTES.false two _ c.next-3.ensures.steps c.in_err-next-3.was
+
+pub returns-in_err-depth : goal.returns-in_err-depth
+returns-in_err-depth c =
+    let split = c.split-words.ensures in
+    let one = next_word (all_left _ c.args.line.now split.rest split.done split.closure (λ x r q k. search (rules, tests))) c.next.ensures.steps c.in_ok-next.was in
+    let two = next_word one c.next-2.ensures.steps c.in_ok-next-2.was in
+    let three = next_word two c.next-3.ensures.steps c.in_ok-next-3.was in
+    c.from_residual-in_err-depth.ensures ∙ bad_third c.if-line-gt-MOST_BYTES.false three c.in_err-depth.ensures
+
+pub returns-then-is_some : goal.returns-then-is_some
+returns-then-is_some c =
+    let split = c.split-words.ensures in
+    let one = next_word (all_left _ c.args.line.now split.rest split.done split.closure (λ x r q k. search (rules, tests))) c.next.ensures.steps c.in_ok-next.was in
+    let two = next_word one c.next-2.ensures.steps c.in_ok-next-2.was in
+    let three = next_word two c.next-3.ensures.steps c.in_ok-next-3.was in
+    four_or_more c.if-line-gt-MOST_BYTES.false three _ _ c.next-4.ensures.steps (sym c.is_some.ensures ∙ c.if-is_some.true)
 
 pub returns : goal.returns
 returns c =
-    let args = c.args in
-    let place_of = c.place_of-first in
-    let place-of2 = c.place_of-second in
-    let counts = c.counts in
-    let if1 = c.if-line-gt-MOST_BYTES in
-    let if2 = c.if-line-first in
-    let if3 = c.if-rest-second in
-    let read_number = c.read_number-shared in
-    let read-number2 = c.read_number-joined in
-    let read-number3 = c.read_number-depth in
-    let line = args.line.now in
-    let first = place_of.result in
-    let second = place-of2.result in
-    counts.ensures
-    ∙ three_words line if1.false place_of.ensures if2.false (from_on (first + 1) line) place-of2.ensures if3.false
-    (from_on (second + 1) _) read_number.ensures read-number2.ensures read-number3.ensures
+    let split = c.split-words.ensures in
+    let one = next_word (all_left _ c.args.line.now split.rest split.done split.closure (λ x r q k. search (rules, tests))) c.next.ensures.steps c.in_ok-next.was in
+    let two = next_word one c.next-2.ensures.steps c.in_ok-next-2.was in
+    let three = next_word two c.next-3.ensures.steps c.in_ok-next-3.was in
+    c.checked.ensures
+    ∙ three_only c.if-line-gt-MOST_BYTES.false three _ _ c.next-4.ensures.steps (sym c.is_some.ensures ∙ c.if-is_some.false) c.in_ok-shared.ensures c.in_ok-joined.ensures c.in_ok-depth.ensures
