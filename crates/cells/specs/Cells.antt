@@ -53,7 +53,7 @@ row s at zero = []
 row s at (suc n) = get_or s at 0 ∷ row s (at + 1) n
 
 -- x 0, x 1, .. x (n - 1) put in the cells from a place on
-unfoldable pub row_put : List ℕ → ℕ → (ℕ → ℕ) → ℕ → List ℕ
+unfoldable pub row_put : {A : Type 0} → List A → ℕ → (ℕ → A) → ℕ → List A
 row_put s at x zero = s
 row_put s at x (suc n) = set (row_put s at x n) (at + n) (x n)
 

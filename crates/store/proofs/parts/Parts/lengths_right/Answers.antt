@@ -1,7 +1,7 @@
--- `lengths_right` meets its contract: its test is the definition.
+-- The test is the definition.
 use mathlib.Core.Path.{refl}
 use Rattle.store.specs.Sound.{lengths_right}
-use Rattle.store.proofs.sound.lengths_right.Goals as goal
+use Rattle.store.proofs.parts.Parts.lengths_right.Goals as goal
 
 pub returns : goal.returns
 unfolding lengths_right
