@@ -70,3 +70,7 @@ pub record NameParts (head keys rests : List ℕ) : Type 0 where
   pub head_long : length head ≡ head_length
   pub keys_long : length keys ≡ keys_length
   pub rests_long : length rests ≡ rests_length
+
+-- the names of a store are right: a search of them, and one more name, stay within the parts
+abbrev pub NamesRight : Store → Type 0
+NamesRight t = NameParts t.head t.keys t.rests
