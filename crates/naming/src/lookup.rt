@@ -1,5 +1,5 @@
 // Where a call's ids are. Each id is looked up once; the rest of a call reads the numbers.
-ghost use Rattle.std.specs.Prelude.{◌≡◌, cond, ℕ, ◌+◌, ◌^◌, ◌≤◌, ◌<◌};
+ghost use Rattle.std.specs.Prelude.{◌≡◌, ℕ, ◌+◌, ◌^◌, ◌≤◌, ◌<◌};
 ghost use Rattle.cells.specs.Cells.{same_id, first_where};
 ghost use Rattle.store.specs.Tables.{names, number_of};
 ghost use Rattle.store.specs.Parts.{store_in};
@@ -16,8 +16,8 @@ use store::limits::*;
 pub const CALL_LIMIT: usize = PARENT_LIMIT + 1;
 
 // The number of each of a call's ids once all are named, which of them are new, and how many those are. Place 0 is the
-// call's first id, place 1 + i the i-th of its list.
-#[derive(Clone, Copy)]
+// call's first id, place 1 + i the i-th of its list. The numbers stand by themselves, since a record takes its parents' as a slice.
+#[derive(Clone, Copy, Debug, PartialEq, Eq)]
 pub struct Located {
     pub numbers: [u16; CALL_LIMIT],
     pub new: [bool; CALL_LIMIT],
@@ -25,17 +25,10 @@ pub struct Located {
 }
 
 // The same of one id.
-#[derive(Clone, Copy)]
+#[derive(Clone, Copy, Debug, PartialEq, Eq)]
 struct Spot {
     number: u16,
     new: bool,
-}
-
-// 1 for a new id.
-fn count(new: bool) -> usize
-    ensures { (result ≡ cond new 1 0) × (result ≤ 1) }
-{
-    if new { 1 } else { 0 }
 }
 
 impl Located {
@@ -61,7 +54,7 @@ impl Located {
         Located {
             numbers,
             new,
-            fresh: self.fresh + count(spot.new),
+            fresh: self.fresh + usize::from(spot.new),
         }
     }
 }
