@@ -41,7 +41,9 @@ fn is_at(keys: &[u32], rests: &[u8], p: usize, x: &[u8; 32], key: u32) -> bool
     keys[p] == key && same_rest(rests, p * REST, x)
 }
 
-// The lowest place from start up to stop, counted from `from`, that has the id x.
+// The lowest place from start up to stop, counted from `from`, that has the id x. Never inlined, so that the loop over
+// blocks, which seldom calls it, keeps its registers.
+#[inline(never)]
 fn first_between(
     keys: &[u32],
     rests: &[u8],
