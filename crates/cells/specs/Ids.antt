@@ -7,7 +7,8 @@ use Rattle.std.proofs.Math.Seq.{get_or-set_same, get_or-set_other}
 use Rattle.std.proofs.Math.Pow.{shr_lt, shr-shr}
 use Rattle.std.proofs.lemmas.Bool.{eqb-false, not-true}
 use Rattle.cells.specs.Cells.{every, first_where, pick_found, or_else, is_at, row, row_put, Id, Bytes, IsId, same_id, key_of, key_bytes, id_at, Places, keys_put, rests_put, same_rest, has_id, first_id}
-use Rattle.cells.specs.Every.{or_same, both_ways, every_at, every_all, every_fails, every_cong, every_split}
+use Rattle.std.specs.Cmp.{both_ways}
+use Rattle.cells.specs.Every.{or_same, every_at, every_all, every_fails, every_cong, every_split}
 use Rattle.cells.specs.First.{first_none, first_cong, first_suc, else_any}
 use Rattle.cells.specs.Rows.{row_length, row_at, row_cong, put_length, put_at, put_other}
 

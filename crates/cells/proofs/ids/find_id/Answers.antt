@@ -1,13 +1,10 @@
-use Rattle.std.proofs.Common.{◌≡◌, ◌+◌, ◌*◌, ◌≤◌, length, None, refl, arith}
-use Rattle.cells.specs.First.{first_start, first_last, first_keep, first_skip, first_part}
+use Rattle.std.proofs.Common.{◌≡◌, ◌+◌, ◌*◌, ◌≤◌, None, refl, arith}
+use Rattle.cells.specs.First.{first_keep, first_skip, first_part}
 use Rattle.cells.specs.Cells.{has_id}
 use Rattle.cells.specs.Ids.{block_without}
 use Rattle.cells.proofs.Slices.{part_length, block_keys}
 use Rattle.cells.proofs.ids.find_id.Goals.{then-not-block_lacks+in_default, else-not-block_lacks}
 use Rattle.cells.proofs.ids.find_id.Goals as goal
-
-pub loop-b-init : goal.loop-b-init
-loop-b-init c = first_start _ _
 
 pub returns-in-Some : goal.returns-in-Some
 returns-in-Some c =
@@ -33,8 +30,3 @@ loop-b-preserved c =
           let none = block_without a.keys.now a.rests.now a.from (b * 64) 64 c.key_of-key.result a.x.now c.block_lacks.result (λ i. (c.type_inv.keys i).fits) key.1.bytes key.0 lacks w.if-not-block_lacks.false in
           first_skip _ _ _ 64 _ None c.loop-b.invariant none fits refl
     ])
-
-pub returns : goal.returns
-returns c =
-    let e : c.loop-b.b ≡ length c.as_chunks.result.0.now = omega (arith, c.loop-b.auto.b-end, c.loop-b-test.false) in
-    first_last _ _ _ _ c.loop-b.invariant _ (rw e c.first_between-2.ensures)
