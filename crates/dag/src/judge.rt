@@ -1,4 +1,4 @@
-// The checks of the inserts, in document 01's order. They read only.
+// The checks of the inserts: the first that fails is the answer. They read only.
 ghost use Rattle.std.specs.Prelude.{◌≡◌, List, ℕ, ◌≤◌, length, get_or};
 ghost use Rattle.store.specs.Limits.{parent_limit, child_limit};
 ghost use Rattle.store.specs.Tables.{store, place_of, is_spent};
@@ -43,7 +43,7 @@ pub fn place_of(head: &[u32], keys: &[u32], rests: &[u8], z: &[u8; 32]) -> Found
     requires { NullParts head.now keys.now rests.now }
     ensures { (n l o p : List ℕ) → result ≡ place_of (store head.now keys.now rests.now n l o p) z.now }
 {
-    cells::find_id(keys, rests, NULLS_AT, cells::at32(head, SPENT) as usize, z)
+    cells::find_id(keys, rests, NULLS_AT, cells::at(head, SPENT) as usize, z)
 }
 
 fn is_spent(head: &[u32], keys: &[u32], rests: &[u8], z: &[u8; 32]) -> bool

@@ -117,7 +117,7 @@ pub fn number_of(head: &[u32], keys: &[u32], rests: &[u8], x: &[u8; 32]) -> Foun
     requires { NameParts head.now keys.now rests.now }
     ensures { (n l o p : List ℕ) → result ≡ number_of (store head.now keys.now rests.now n l o p) x.now }
 {
-    cells::find_id(keys, rests, NAMES_AT, cells::at32(head, NAMES) as usize, x)
+    cells::find_id(keys, rests, NAMES_AT, cells::at(head, NAMES) as usize, x)
 }
 
 // Where the ids of a call are: each is compared with the ids before it, and then searched for among the names.
@@ -131,7 +131,7 @@ pub fn locate(
     requires { NameParts head.now keys.now rests.now × (length others.now ≤ parent_limit) }
     ensures { (n l o p : List ℕ) → Locates (store head.now keys.now rests.now n l o p) (called id.now others.now) (suc (length others.now)) result }
 {
-    let names = cells::at32(head, NAMES) as usize;
+    let names = cells::at(head, NAMES) as usize;
     let none = Located::nowhere();
     let mut at = none.with(0, locate_one(keys, rests, names, id, Found::Nothing, none));
     let mut i: usize = 0;

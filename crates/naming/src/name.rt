@@ -17,9 +17,9 @@ fn list_if(head: &mut [u32], keys: &mut [u32], rests: &mut [u8], x: &[u8; 32], n
     ensures { (n l o p : List ℕ) → store head.new keys.new rests.new n l o p ≡ list_if new (store head.old keys.old rests.old n l o p) x.now }
 {
     if new {
-        let n = cells::at32(head, NAMES);
+        let n = cells::at(head, NAMES);
         cells::put_id(keys, rests, NAMES_AT + n as usize, x);
-        cells::put32(head, NAMES, n + 1);
+        cells::put(head, NAMES, n + 1);
     }
 }
 
@@ -51,12 +51,12 @@ fn clear_node(nodes: &mut [u16], n: usize)
     let at = PARENTS_AT + n * PARENT_LIMIT;
     let mut j: usize = 0;
     while j < PARENT_LIMIT {
-        cells::put16(nodes, at + j, 0);
+        cells::put(nodes, at + j, 0);
         j += 1;
     }
-    cells::put16(nodes, COUNTS_AT + n, 0);
-    cells::put16(nodes, DEPTHS_AT + n, 0);
-    cells::put16(nodes, REQUESTS_AT + n, 0);
+    cells::put(nodes, COUNTS_AT + n, 0);
+    cells::put(nodes, DEPTHS_AT + n, 0);
+    cells::put(nodes, REQUESTS_AT + n, 0);
 }
 
 // No record, no children and no pairs of name n.
@@ -64,9 +64,9 @@ fn clear_link(links: &mut [u32], n: usize)
     requires { n < name_limit }
     ensures { links.new ≡ fresh_link links.old n }
 {
-    cells::put32(links, PLACES_AT + n, 0);
-    cells::put32(links, LASTS_AT + n, 0);
-    cells::put32(links, LAST_PAIRS_AT + n, 0);
+    cells::put(links, PLACES_AT + n, 0);
+    cells::put(links, LASTS_AT + n, 0);
+    cells::put(links, LAST_PAIRS_AT + n, 0);
 }
 
 // Name n as never seen.
@@ -76,7 +76,7 @@ fn clear_row(nodes: &mut [u16], links: &mut [u32], nonces: &mut [u64], tips: &mu
 {
     clear_node(nodes, n);
     clear_link(links, n);
-    cells::put64(nonces, n, 0);
+    cells::put(nonces, n, 0);
     bitset::remove(tips, n);
 }
 
@@ -115,7 +115,7 @@ pub fn name_all(
     requires { NameParts head.old keys.old rests.old × ((length others.now ≤ parent_limit) × (Locates (store head.old keys.old rests.old nodes.old links.old nonces.old tips.old) (called id.now others.now) (suc (length others.now)) at × (get_or head.old 0 0 + at.fresh ≤ name_limit))) }
     ensures { store head.new keys.new rests.new nodes.new links.new nonces.new tips.new ≡ named (store head.old keys.old rests.old nodes.old links.old nonces.old tips.old) (called id.now others.now) (suc (length others.now)) }
 {
-    let first = cells::at32(head, NAMES) as usize;
+    let first = cells::at(head, NAMES) as usize;
     let new = at.new;
     list_all(head, keys, rests, id, others, new);
     clear_rows(nodes, links, nonces, tips, first, at.fresh);

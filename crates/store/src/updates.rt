@@ -10,13 +10,13 @@ pub fn add_child(head: &mut [u32], nodes: &mut [u16], links: &mut [u32], p: usiz
     requires { (get_or head.old 1 0 < child_limit) × (p < name_limit) }
     ensures { (k r o s : List ℕ) → store head.new k r nodes.new links.new o s ≡ with_child (store head.old k r nodes.old links.old o s) p c }
 {
-    let e = cells::at32(head, ENTRIES);
+    let e = cells::at(head, ENTRIES);
     let at = e as usize;
-    let last = cells::at32(links, LASTS_AT + p);
-    cells::put16(nodes, CHILDREN_AT + at, c);
-    cells::put32(links, PREVIOUS_AT + at, last);
-    cells::put32(links, LASTS_AT + p, e + 1);
-    cells::put32(head, ENTRIES, e + 1);
+    let last = cells::at(links, LASTS_AT + p);
+    cells::put(nodes, CHILDREN_AT + at, c);
+    cells::put(links, PREVIOUS_AT + at, last);
+    cells::put(links, LASTS_AT + p, e + 1);
+    cells::put(head, ENTRIES, e + 1);
 }
 
 // One more nullifier.
@@ -24,9 +24,9 @@ pub fn keep_null(head: &mut [u32], keys: &mut [u32], rests: &mut [u8], z: &[u8; 
     requires { (get_or head.old 2 0 < null_limit) × ((length keys.old ≡ keys_length) × (length rests.old ≡ rests_length)) }
     ensures { (n l o s : List ℕ) → store head.new keys.new rests.new n l o s ≡ with_null (store head.old keys.old rests.old n l o s) z.now }
 {
-    let e = cells::at32(head, SPENT);
+    let e = cells::at(head, SPENT);
     cells::put_id(keys, rests, NULLS_AT + e as usize, z);
-    cells::put32(head, SPENT, e + 1);
+    cells::put(head, SPENT, e + 1);
 }
 
 // The record of name n: the nullifier at a place, and k parents by name, which stand in numbers from 1 on.
@@ -45,18 +45,18 @@ pub fn keep_record(
     let at = PARENTS_AT + n * PARENT_LIMIT;
     let mut j: usize = 0;
     while j < k {
-        cells::put16(nodes, at + j, names[1 + j]);
+        cells::put(nodes, at + j, names[1 + j]);
         j += 1;
     }
-    cells::put16(nodes, COUNTS_AT + n, k as u16);
-    cells::put32(links, PLACES_AT + n, place as u32 + 1);
+    cells::put(nodes, COUNTS_AT + n, k as u16);
+    cells::put(links, PLACES_AT + n, place as u32 + 1);
 }
 
 // The mark cleared.
 pub fn unmark(head: &mut [u32])
     ensures { (k r n l o s : List ℕ) → store head.new k r n l o s ≡ unmarked (store head.old k r n l o s) }
 {
-    cells::put32(head, MARK, 0);
+    cells::put(head, MARK, 0);
 }
 
 // All counts 0, and the mark set.
@@ -65,8 +65,8 @@ pub fn empty_head(head: &mut [u32])
 {
     let mut i: usize = 0;
     while i < MARK {
-        cells::put32(head, i, 0);
+        cells::put(head, i, 0);
         i += 1;
     }
-    cells::put32(head, MARK, 1);
+    cells::put(head, MARK, 1);
 }

@@ -1,10 +1,10 @@
+use Rattle.std.specs.Prelude.{Some}
 use Prim.Native.Nat.{suc, ◌+◌}
 use mathlib.Core.Path.{◌≡◌, ◌∙◌, sym, ap, refl}
 use mathlib.Core.Bool.{true, false}
 use native.Mathlib.Omega.{arith}
 use native.Mathlib.Numerals.{add-one}
 use Rattle.cells.specs.First.{first_start, first_hit, first_miss, first_end}
-use Rattle.cells.specs.declared.Found.TheVariants.{At}
 use Rattle.naming.proofs.lookup.earlier.Invariants.{alike}
 use Rattle.naming.proofs.lookup.earlier.Goals as goal
 
@@ -28,7 +28,7 @@ returns-then-same_id-2 c =
     let args = c.args in
     let same-id2 = c.same_id-in-loop-j in
     let if2 = c.if-same_id-2 in
-    ap At (add-one the-loop.j) ∙ sym (the-loop.invariant.1 ∙ sym (first_hit (alike args.id.now args.others.now args.i) (suc args.i) (suc the-loop.j) _ refl true (omega arith) (sym if2.true ∙ same-id2.ensures) refl))
+    ap Some (add-one the-loop.j) ∙ sym (the-loop.invariant.1 ∙ sym (first_hit (alike args.id.now args.others.now args.i) (suc args.i) (suc the-loop.j) _ refl true (omega arith) (sym if2.true ∙ same-id2.ensures) refl))
 
 pub loop-j-preserved : goal.loop-j-preserved
 loop-j-preserved c =

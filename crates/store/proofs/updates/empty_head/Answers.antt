@@ -12,21 +12,18 @@ pub loop-i-preserved : goal.loop-i-preserved
 loop-i-preserved c =
     let args = c.args in
     let the-loop = c.loop-i in
-    let put32 = c.put32 in
-    (omega arith, empty_step args.head.now the-loop.head _ the-loop.i the-loop.invariant.1 put32.ensures)
+    (omega arith, empty_step args.head.now the-loop.head _ the-loop.i the-loop.invariant.1 c.put.ensures)
 
 pub shape_of-head : goal.shape_of-head
 shape_of-head c =
     let the-loop = c.loop-i in
     let args = c.args in
-    let put322 = c.put32-2 in
     let turns : length the-loop.head ≡ length args.head.now = ap length the-loop.invariant.1 ∙ put_length args.head.now 0 (λ j. 0) the-loop.i in
-    omega (arith, put322.auto.s)
+    omega (arith, c.put-2.auto.s)
 
 pub returns : goal.returns
 returns c =
     let the-loop = c.loop-i in
     let args = c.args in
-    let put322 = c.put32-2 in
     let i : the-loop.i ≡ 6 = omega arith in
-    λ k r n l o s. empty_made args.head.now _ _ k r n l o s (rw i at the-loop.invariant.1) put322.ensures
+    λ k r n l o s. empty_made args.head.now _ _ k r n l o s (rw i at the-loop.invariant.1) c.put-2.ensures

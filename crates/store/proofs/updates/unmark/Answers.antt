@@ -3,7 +3,4 @@ use Rattle.store.specs.Steps.{mark_made}
 use Rattle.store.proofs.updates.unmark.Goals as goal
 
 pub returns : goal.returns
-returns c =
-    let args = c.args in
-    let put32 = c.put32 in
-    λ k r n l o s. mark_made args.head.now _ k r n l o s put32.ensures
+returns c = λ k r n l o s. mark_made c.args.head.now _ k r n l o s c.put.ensures
