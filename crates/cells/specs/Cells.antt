@@ -1,5 +1,6 @@
 -- The words of this crate's contracts. A table is the list of its cells; a cell past its end reads 0, and a cell put there changes nothing.
-use Rattle.std.specs.Prelude.{ℕ, zero, suc, ◌+◌, ◌*◌, ◌/◌, ◌%◌, ◌≤◌, ◌<◌, ◌≡◌, Bool, true, false, ◌&&◌, List, Option, Some, None, [], ◌∷◌, ◌++◌, length, get_or, set, eqb, leb, ltb}
+use Rattle.std.specs.Prelude.{ℕ, zero, suc, ◌+◌, ◌*◌, ◌/◌, ◌%◌, ◌≤◌, ◌<◌, ◌≡◌, Bool, true, false, ◌&&◌, List, Option, Some, None, is_some, cond, [], ◌∷◌, ◌++◌, length, get_or, set, eqb, leb, ltb}
+use Rattle.std.specs.Option.{unwrap_or, option_or}
 
 ------ tests over places
 
@@ -20,8 +21,7 @@ all_falling s from n = every (λ i. leb (get_or s (from + i) 0) i) n
 
 -- one of two answers, by a test
 abbrev pub pick_found : Bool → Option ℕ → Option ℕ → Option ℕ
-pick_found true a b = a
-pick_found false a b = b
+pick_found b x y = cond b x y
 
 -- the lowest of the n places from i on at which p holds
 unfoldable pub first_where : (ℕ → Bool) → ℕ → ℕ → Option ℕ
@@ -30,18 +30,15 @@ first_where p i (suc n) = pick_found (p i) (Some i) (first_where p (i + 1) n)
 
 -- something was found
 abbrev pub is_at : Option ℕ → Bool
-is_at (Some k) = true
-is_at None = false
+is_at f = is_some f
 
 -- where it was found, or 0
 abbrev pub or_zero : Option ℕ → ℕ
-or_zero (Some k) = k
-or_zero None = 0
+or_zero f = unwrap_or f 0
 
 -- the first answer, or the second where the first search found nothing
 abbrev pub or_else : Option ℕ → Option ℕ → Option ℕ
-or_else (Some k) b = Some k
-or_else None b = b
+or_else f g = option_or f g
 
 ------ rows
 

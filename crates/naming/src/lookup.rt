@@ -6,7 +6,6 @@ ghost use Rattle.store.specs.Tables.{store, number_of};
 ghost use Rattle.naming.specs.Naming.{call_limit, NameParts, called};
 ghost use Rattle.naming.specs.Located.{Locates, nowhere, with_spot, spot_of};
 
-use cells::Found;
 use store::limits::*;
 
 // How many ids a call has at most: the first, and a full list.
@@ -64,21 +63,21 @@ impl Located {
 }
 
 // The lowest earlier place of the call that has the i-th id of its list.
-fn earlier(id: &[u8; 32], others: &[[u8; 32]], i: usize) -> Found
+fn earlier(id: &[u8; 32], others: &[[u8; 32]], i: usize) -> Option<usize>
     requires { i < length others.now }
     ensures { result ≡ first_where (λ j. same_id (called id.now others.now j) (called id.now others.now (suc i))) 0 (suc i) }
 {
     if cells::same_id(id, &others[i]) {
-        return Found::At(0);
+        return Some(0);
     }
     let mut j: usize = 0;
     while j < i {
         if cells::same_id(&others[j], &others[i]) {
-            return Found::At(j + 1);
+            return Some(j + 1);
         }
         j += 1;
     }
-    Found::Nothing
+    None
 }
 
 // Where one id is: at the number of its earlier place, or of its name, or at the next free one.
@@ -87,24 +86,24 @@ fn locate_one(
     rests: &[u8],
     names: usize,
     x: &[u8; 32],
-    place: Found,
+    place: Option<usize>,
     at: Located,
 ) -> Spot
-    requires { (Places keys.now rests.now (names_at + names) × (names + at.fresh < 2 ^ 16)) × ((j : ℕ) → place ≡ Found.At j → j < call_limit) }
+    requires { (Places keys.now rests.now (names_at + names) × (names + at.fresh < 2 ^ 16)) × ((j : ℕ) → place ≡ Some j → j < call_limit) }
     ensures { result ≡ spot_of at (names + at.fresh) place (first_id keys.now rests.now names_at names x.now) }
 {
     let numbers = at.numbers;
     match place {
-        Found::At(j) => Spot {
+        Some(j) => Spot {
             number: numbers[j],
             new: false,
         },
-        Found::Nothing => match cells::find_id(keys, rests, NAMES_AT, names, x) {
-            Found::At(n) => Spot {
+        None => match cells::find_id(keys, rests, NAMES_AT, names, x) {
+            Some(n) => Spot {
                 number: n as u16,
                 new: false,
             },
-            Found::Nothing => Spot {
+            None => Spot {
                 number: (names + at.fresh) as u16,
                 new: true,
             },
@@ -113,7 +112,7 @@ fn locate_one(
 }
 
 // The number of the id x: of equal names the lowest counts.
-pub fn number_of(head: &[u32], keys: &[u32], rests: &[u8], x: &[u8; 32]) -> Found
+pub fn number_of(head: &[u32], keys: &[u32], rests: &[u8], x: &[u8; 32]) -> Option<usize>
     requires { NameParts head.now keys.now rests.now }
     ensures { (n l o p : List ℕ) → result ≡ number_of (store head.now keys.now rests.now n l o p) x.now }
 {
@@ -133,7 +132,7 @@ pub fn locate(
 {
     let names = cells::at(head, NAMES) as usize;
     let none = Located::nowhere();
-    let mut at = none.with(0, locate_one(keys, rests, names, id, Found::Nothing, none));
+    let mut at = none.with(0, locate_one(keys, rests, names, id, None, none));
     let mut i: usize = 0;
     while i < others.len() {
         let before = earlier(id, others, i);

@@ -8,32 +8,32 @@ use Rattle.naming.proofs.lookup.locate_one.Goals as goal
 pub offset_bounds-numbers-j : goal.offset_bounds-numbers-j
 offset_bounds-numbers-j c =
     let pre = c.requires in
-    let h = pre.1 _ c.in-At.is in omega arith
+    let h = pre.1 _ c.in-Some.is in omega arith
 
 pub bounds-numbers-j : goal.bounds-numbers-j
 bounds-numbers-j c =
     let pre = c.requires in
-    pre.1 _ c.in-At.is
+    pre.1 _ c.in-Some.is
 
 pub overflow_cast-result : goal.overflow_cast-result
 overflow_cast-result c =
     let find-id = c.find_id in
     let pre = c.requires in
-    let h = (first_found _ _ _ _ (sym find-id.ensures ∙ c.in-At-find_id.is)).below in omega (arith, pre.0.1)
+    let h = (first_found _ _ _ _ (sym find-id.ensures ∙ c.in-Some-find_id.is)).below in omega (arith, pre.0.1)
 
-pub returns-in-At : goal.returns-in-At
+pub returns-in-Some : goal.returns-in-Some
 unfolding spot_of
-returns-in-At c =
-    rw c.in-At.is
+returns-in-Some c =
+    rw c.in-Some.is
 
-pub returns-in-At-find_id : goal.returns-in-At-find_id
+pub returns-in-Some-find_id : goal.returns-in-Some-find_id
 unfolding spot_of
-returns-in-At-find_id c =
+returns-in-Some-find_id c =
     let find-id = c.find_id in
-    rw (c.in-Nothing.is, ← find-id.ensures, c.in-At-find_id.is)
+    rw (c.in-None.is, ← find-id.ensures, c.in-Some-find_id.is)
 
-pub returns-in-Nothing-find_id : goal.returns-in-Nothing-find_id
+pub returns-in-None-find_id : goal.returns-in-None-find_id
 unfolding spot_of
-returns-in-Nothing-find_id c =
+returns-in-None-find_id c =
     let find-id = c.find_id in
-    rw (c.in-Nothing.is, ← find-id.ensures, c.in-Nothing-find_id.is)
+    rw (c.in-None.is, ← find-id.ensures, c.in-None-find_id.is)

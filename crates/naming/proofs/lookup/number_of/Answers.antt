@@ -5,6 +5,4 @@ use Rattle.naming.proofs.lookup.number_of.Goals as goal
 
 pub returns : goal.returns
 returns c =
-    let at32 = c.at32 in
-    let find-id = c.find_id in
-    λ (n l o p : List ℕ). rw (← at32.ensures) find-id.ensures
+    λ (n l o p : List ℕ). rw (← c.at.ensures) c.find_id.ensures

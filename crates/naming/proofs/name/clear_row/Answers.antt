@@ -9,6 +9,5 @@ unfolding with_row
 returns c =
     let clear-node = c.clear_node in
     let clear-link = c.clear_link in
-    let put64 = c.put64 in
     let remove = c.remove in
-    λ (h k r : List ℕ). rw (clear-node.ensures, clear-link.ensures, put64.ensures, remove.ensures)
+    λ (h k r : List ℕ). rw (clear-node.ensures, clear-link.ensures, c.put.ensures, remove.ensures)

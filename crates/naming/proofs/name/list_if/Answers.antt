@@ -8,10 +8,8 @@ pub returns-then-new : goal.returns-then-new
 unfolding with_id
 returns-then-new c =
     let if1 = c.if-new in
-    let put32 = c.put32 in
     let put_id = c.put_id in
-    let at32 = c.at32-n in
-    λ (n l o p : List ℕ). rw (if1.true, put32.ensures, put_id.ensures.0, put_id.ensures.1, at32.ensures)
+    λ (n l o p : List ℕ). rw (if1.true, c.put.ensures, put_id.ensures.0, put_id.ensures.1, c.at-n.ensures)
 
 pub returns-else-new : goal.returns-else-new
 returns-else-new c =

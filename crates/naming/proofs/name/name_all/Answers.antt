@@ -12,17 +12,15 @@ list_all-requires c =
 
 pub clear_rows-requires : goal.clear_rows-requires
 clear_rows-requires c =
-    let at32 = c.at32-first in
     let pre = c.requires in
-    omega (arith, at32.ensures, pre.1.1.1)
+    omega (arith, c.at-first.ensures, pre.1.1.1)
 
 pub returns : goal.returns
 returns c =
     let pre = c.requires in
-    let at32 = c.at32-first in
     let list_all = c.list_all in
     let args = c.args in
     let clear-rows = c.clear_rows in
-    located_named _ _ _ _ pre.1.1.0 _ _ _ (omega (arith, pre.0.head_long)) at32.ensures
+    located_named _ _ _ _ pre.1.1.0 _ _ _ (omega (arith, pre.0.head_long)) c.at-first.ensures
     (list_all.ensures args.nodes.now args.links.now args.nonces.now args.tips.now)
     (clear-rows.ensures list_all.new.head list_all.new.keys list_all.new.rests)
