@@ -1,6 +1,6 @@
 -- What std's slices say of a table's cells: a part of a table, a write to one, `==` of two, and blocks of cells.
 use Rattle.std.proofs.Common.{◌≡◌, ℕ, zero, suc, ◌+◌, ◌-◌, ◌*◌, ◌≤◌, ◌<◌, Bool, true, List, [], length, get_or, take, drop, eqb, ltb, ltb-true, ltb-false, refl, false, not, ◌/◌, sym, ap, ◌∙◌, arith, rules, ext_get_or, eqb-true, eq-eqb, length-take, length-drop}
-use Rattle.std.proofs.lemmas.List.{places, get_or-take, get_or-drop}
+use Rattle.std.proofs.lemmas.List.{places, get_or_default, get_or-take, get_or-drop}
 use Rattle.std.proofs.lemmas.Bool.Decides.{Decides-eqb}
 use borrow.Rule.Slice.PartMut.{put_mid}
 use Rattle.std.proofs.lemmas.Slice.Eq.{slice_eq-Decides}
@@ -20,6 +20,12 @@ module _ {A : Type 0} (s : List A) (from n : ℕ) where
 
   pub part_length : from + n ≤ length s → length (take (from + n - from) (drop from s)) ≡ n
   part_length h = omega (arith, length-take (from + n - from) (drop from s), length-drop from s)
+
+  -- what a loop over the part reads
+  pub part_read : (i : ℕ) (x d : A) → from + n ≤ length s → i < length (take (from + n - from) (drop from s)) → x ≡ get_or (take (from + n - from) (drop from s)) i x → x ≡ get_or s (from + i) d
+  part_read i x d h k e =
+      let m : i < n = omega (arith, part_length h) in
+      e ∙ get_or_default (take (from + n - from) (drop from s)) i x d k ∙ part_cell i d m
 
 -- the part is a row
 pub part_row : (s : List ℕ) (from n : ℕ) → from + n ≤ length s → take (from + n - from) (drop from s) ≡ row s from n

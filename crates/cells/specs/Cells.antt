@@ -1,5 +1,5 @@
 -- The words of this crate's contracts. A table is the list of its cells; a cell past its end reads 0, and a cell put there changes nothing.
-use Rattle.std.specs.Prelude.{ℕ, zero, suc, ◌+◌, ◌*◌, ◌/◌, ◌%◌, ◌≤◌, ◌<◌, ◌≡◌, Bool, true, false, ◌&&◌, List, Option, Some, None, is_some, cond, [], ◌∷◌, ◌++◌, length, get_or, set, eqb, leb, ltb}
+use Rattle.std.specs.Prelude.{ℕ, zero, suc, ◌+◌, ◌*◌, ◌/◌, ◌%◌, ◌≤◌, ◌<◌, ◌≡◌, Bool, true, ◌&&◌, List, Option, Some, None, is_some, cond, [], ◌∷◌, ◌++◌, length, get_or, set, eqb, leb, ltb}
 use Rattle.std.specs.Option.{unwrap_or, option_or}
 
 ------ tests over places

@@ -1,7 +1,7 @@
 // Tables of ids. Place p of a table has the id's first four bytes as one number, its key, in keys[p],
 // and the other 28 bytes in rests from p * 28 on: a search goes through the keys alone.
-ghost use Rattle.std.specs.Prelude.{◌≡◌, not, ◌+◌, ◌-◌, ◌*◌, ◌≤◌, ◌<◌, ◌%◌, length, get_or, eqb};
-ghost use Rattle.cells.specs.Cells.{every, first_where, IsId, same_id, same_rest, key_of, id_at, Places, keys_put, rests_put, has_id, first_id};
+ghost use Rattle.std.specs.Prelude.{◌≡◌, not, ◌+◌, ◌-◌, ◌≤◌, get_or, eqb};
+ghost use Rattle.cells.specs.Cells.{every, first_where, IsId, same_id, key_of, id_at, Places, keys_put, rests_put, has_id, first_id};
 
 // How many bytes of an id are its key, and how many come after it.
 const KEY: usize = 4;
@@ -25,20 +25,12 @@ pub fn same_id(x: &[u8; 32], y: &[u8; 32]) -> bool
     x == y
 }
 
-// Whether the 28 bytes from a place on are those of x after its key.
-fn same_rest(rests: &[u8], from: usize, x: &[u8; 32]) -> bool
-    requires { from + 28 ≤ length rests.now }
-    ensures { result ≡ same_rest rests.now from x.now }
-{
-    rests[from..from + REST] == x[KEY..]
-}
-
 // Whether place p has the id x, whose key is at hand: the other bytes are read only where the key is the same.
 fn is_at(keys: &[u32], rests: &[u8], p: usize, x: &[u8; 32], key: u32) -> bool
     requires { Places keys.now rests.now (p + 1) × (key ≡ key_of x.now) × IsId x.now }
     ensures { result ≡ same_id (id_at keys.now rests.now p) x.now }
 {
-    keys[p] == key && same_rest(rests, p * REST, x)
+    keys[p] == key && same_id(&get_id(keys, rests, p), x)
 }
 
 // The lowest place from start up to stop, counted from `from`, that has the id x. Never inlined, so that the loop over
@@ -64,7 +56,8 @@ fn first_between(
     None
 }
 
-// Whether none of a block of keys is this one. Without a branch, LLVM compares many at once.
+// Whether none of a block of keys is this one. Without a branch, LLVM compares many at once. `contains` branches after
+// every 16 keys: a miss among 8,192 takes 0.77 microseconds with it, and 0.61 to 0.65 with this loop.
 fn block_lacks(block: &[u32; BLOCK], key: u32) -> bool
     ensures { result ≡ every (λ i. not (eqb (get_or block.now i 0) key)) 64 }
 {
