@@ -2,34 +2,17 @@
 use Rattle.std.specs.Prelude.{ℕ, zero, suc, ◌+◌, ◌≤◌, ◌<◌, ◌≡◌, refl, Bool, true, false, ◌&&◌, ◌||◌, ◌⊎◌}
 use Rattle.std.proofs.Common.{sym, ◌∙◌, ⊎_elim, eq-or-lt_of_le, add-one, arith}
 use Rattle.std.proofs.Math.Bool.{and-true, and_assoc}
+use Rattle.std.proofs.lemmas.Bool.{true≢false, false_from_ne_true, and_parts}
+use Rattle.std.specs.Cmp.{both_ways}
 use Rattle.cells.specs.Cells.{every}
 
 ------ tests
-
-pub and_left : (a b : Bool) → a && b ≡ true → a ≡ true
-and_left true b e = refl
-and_left false b e = e
-
-pub and_right : (a b : Bool) → a && b ≡ true → b ≡ true
-and_right true b e = e
-and_right false b e = let z : false ≡ true = e in cc
 
 -- a second test that the first one follows from adds nothing
 pub or_same : (a b : Bool) → (b ≡ true → a ≡ true) → a ≡ a || b
 or_same true b f = refl
 or_same false true f = f refl
 or_same false false f = refl
-
--- two tests that follow from each other are one
-pub both_ways : (a b : Bool) → (a ≡ true → b ≡ true) → (b ≡ true → a ≡ true) → a ≡ b
-both_ways true b f g = sym (f refl)
-both_ways false true f g = g refl
-both_ways false false f g = refl
-
--- a test that is false where it is true is false
-by_cases : (a : Bool) → (a ≡ true → true ≡ false) → a ≡ false
-by_cases true f = f refl
-by_cases false f = refl
 
 -- a place below n + 1 is n or below n
 pub last_or : (n k : ℕ) → k < suc n → (k ≡ n) ⊎ (k < n)
@@ -55,8 +38,8 @@ unfolding every
 every_at p zero i e h = absurd (omega arith)
 every_at p (suc n) i e h =
     ⊎_elim
-    (λ (w : i ≡ n). rw w (and_right (every p n) (p n) e))
-    (λ (w : i < n). every_at p n i (and_left (every p n) (p n) e) w)
+    (λ (w : i ≡ n). rw w (and_parts (every p n) (p n) e).1)
+    (λ (w : i < n). every_at p n i (and_parts (every p n) (p n) e).0 w)
     (last_or n i h)
 
 pub every_all : (p : ℕ → Bool) (n : ℕ) → ((i : ℕ) → i < n → p i ≡ true) → every p n ≡ true
@@ -69,7 +52,7 @@ every_all p (suc n) f =
 
 -- one place at which p fails is enough
 pub every_fails : (p : ℕ → Bool) (n i : ℕ) → i < n → p i ≡ false → every p n ≡ false
-every_fails p n i h e = by_cases (every p n) (λ (w : every p n ≡ true). sym (every_at p n i w h) ∙ e)
+every_fails p n i h e = false_from_ne_true (every p n) (λ (w : every p n ≡ true). true≢false (sym (every_at p n i w h) ∙ e))
 
 pub every_imp : (p q : ℕ → Bool) (n : ℕ) → ((i : ℕ) → i < n → p i ≡ true → q i ≡ true) → every p n ≡ true → every q n ≡ true
 every_imp p q n f e = every_all q n (λ (i : ℕ) (h : i < n). f i h (every_at p n i e h))

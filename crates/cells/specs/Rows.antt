@@ -31,20 +31,26 @@ row_cong s t at (suc n) f =
 
 ------ a loop that puts a row
 
-pub put_start : (s : List ℕ) (at : ℕ) (x : ℕ → ℕ) → s ≡ row_put s at x 0
+pub put_start : {A : Type 0} (s : List A) (at : ℕ) (x : ℕ → A) → s ≡ row_put s at x 0
 unfolding row_put
 put_start s at x = refl
 
-pub put_step : (s d : List ℕ) (at : ℕ) (x : ℕ → ℕ) (n : ℕ) → d ≡ row_put s at x n → set d (at + n) (x n) ≡ row_put s at x (n + 1)
+pub put_step : {A : Type 0} (s d : List A) (at : ℕ) (x : ℕ → A) (n : ℕ) → d ≡ row_put s at x n → set d (at + n) (x n) ≡ row_put s at x (n + 1)
 unfolding row_put
 put_step s d at x n e = rw (e, add-one)
 
-pub put_end : (s d : List ℕ) (at : ℕ) (x : ℕ → ℕ) (n m : ℕ) → n ≤ m → m ≤ n → d ≡ row_put s at x n → d ≡ row_put s at x m
+pub put_end : {A : Type 0} (s d : List A) (at : ℕ) (x : ℕ → A) (n m : ℕ) → n ≤ m → m ≤ n → d ≡ row_put s at x n → d ≡ row_put s at x m
 put_end s d at x n m h k e = let q : m ≡ n = omega arith in rw q e
+
+-- what is put counts, and not how it is come by
+pub put_cong : {A : Type 0} (s : List A) (at : ℕ) (x y : ℕ → A) (n : ℕ) → ((i : ℕ) → i < n → x i ≡ y i) → row_put s at x n ≡ row_put s at y n
+unfolding row_put
+put_cong s at x y zero f = refl
+put_cong s at x y (suc n) f = rw (f n (omega arith), put_cong s at x y n (λ (i : ℕ) (h : i < n). f i (omega arith)))
 
 ------ the table afterwards
 
-pub put_length : (s : List ℕ) (at : ℕ) (x : ℕ → ℕ) (n : ℕ) → length (row_put s at x n) ≡ length s
+pub put_length : {A : Type 0} (s : List A) (at : ℕ) (x : ℕ → A) (n : ℕ) → length (row_put s at x n) ≡ length s
 unfolding row_put
 put_length s at x zero = refl
 put_length s at x (suc n) = simp (length-set, put_length s at x n)

@@ -4,39 +4,64 @@
 mod columns;
 mod ids;
 
-ghost use Rattle.std.specs.Prelude.{◌≡◌, get_or, set};
+ghost use Rattle.std.specs.Prelude.{◌≡◌, ℕ, ◌+◌, ◌<◌, ◌^◌, length, get_or, set, ltb};
+ghost use Rattle.std.specs.Ordering.{partial_lt};
+ghost use Rattle.cells.specs.Cells.{row_put};
+ghost use Rattle.cells.specs.Columns.{numbers_ordered};
 
-pub use columns::{all_below16, all_below32, all_falling32};
-pub use ids::{as_id, find_id, get_id, put_id, same_id};
+pub use columns::{all_below, all_falling};
+pub use ids::{find_id, get_id, put_id, same_id};
 
-// Where a search found what it looks for.
-#[derive(Clone, Copy)]
-pub enum Found {
-    At(usize),
-    Nothing,
+// A number that a table has in each of its cells. The two laws say that std's default is 0, and that std's order is that of numbers.
+pub trait Cell: Copy + Default + PartialOrd {
+    ghost zero: { Self };
+
+    ghost number: { Self → ℕ };
+
+    ghost default_is_zero: { (x : Self) → Self.is_default x → x ≡ zero };
+
+    ghost ordered: { (x y : Self) → partial_lt Self.partial_cmp x y ≡ ltb (number x) (number y) };
+}
+
+impl Cell for u16 {
+    ghost zero = { 0 };
+
+    ghost number = { λ x. x };
+
+    ghost default_is_zero = { λ x e. e };
+
+    ghost ordered = { numbers_ordered };
+}
+
+impl Cell for u32 {
+    ghost zero = { 0 };
+
+    ghost number = { λ x. x };
+
+    ghost default_is_zero = { λ x e. e };
+
+    ghost ordered = { numbers_ordered };
+}
+
+impl Cell for u64 {
+    ghost zero = { 0 };
+
+    ghost number = { λ x. x };
+
+    ghost default_is_zero = { λ x e. e };
+
+    ghost ordered = { numbers_ordered };
 }
 
 // What stands at i, and 0 past the end.
-pub fn at16(s: &[u16], i: usize) -> u16
-    ensures { result ≡ get_or s.now i 0 }
+pub fn at<T: Cell>(s: &[T], i: usize) -> T
+    ensures { result ≡ get_or s.now i T.zero }
 {
-    if i < s.len() { s[i] } else { 0 }
-}
-
-pub fn at32(s: &[u32], i: usize) -> u32
-    ensures { result ≡ get_or s.now i 0 }
-{
-    if i < s.len() { s[i] } else { 0 }
-}
-
-pub fn at64(s: &[u64], i: usize) -> u64
-    ensures { result ≡ get_or s.now i 0 }
-{
-    if i < s.len() { s[i] } else { 0 }
+    s.get(i).copied().unwrap_or_default()
 }
 
 // v put at i, and nothing done past the end.
-pub fn put16(s: &mut [u16], i: usize, v: u16)
+pub fn put<T: Copy>(s: &mut [T], i: usize, v: T)
     ensures { s.new ≡ set s.old i v }
 {
     if i < s.len() {
@@ -44,18 +69,12 @@ pub fn put16(s: &mut [u16], i: usize, v: u16)
     }
 }
 
-pub fn put32(s: &mut [u32], i: usize, v: u32)
-    ensures { s.new ≡ set s.old i v }
+// The cells of row put from place `at` on, as far as the table reaches.
+pub fn put_row<T: Cell>(s: &mut [T], at: usize, row: &[T])
+    requires { at + length row.now < 2 ^ 64 }
+    ensures { s.new ≡ row_put s.old at (λ j. get_or row.now j T.zero) (length row.now) }
 {
-    if i < s.len() {
-        s[i] = v;
-    }
-}
-
-pub fn put64(s: &mut [u64], i: usize, v: u64)
-    ensures { s.new ≡ set s.old i v }
-{
-    if i < s.len() {
-        s[i] = v;
+    for (j, cell) in row.iter().enumerate() {
+        put(s, at + j, *cell);
     }
 }

@@ -1,12 +1,10 @@
 -- The parents gone through in order, and what a call leaves by each way through its code.
 use Prim.Native.Nat.{ℕ, zero, suc, ◌+◌, ◌*◌, ◌-◌, ◌≤◌, ◌<◌}
-use Rattle.std.specs.Prelude.{◌≡◌, refl, Bool, true, false, List, length}
+use Rattle.std.specs.Prelude.{◌≡◌, refl, Bool, true, false, List, length, Option, Some, None}
 use Rattle.std.proofs.Math.Path.{sym}
 use Rattle.std.proofs.Common.{ap, ◌∙◌, add-one, get_or-set_same}
 use native.Mathlib.Omega.{arith}
 use Rattle.cells.specs.Cells.{Id, row_put}
-use Rattle.cells.specs.declared.Found.{Found}
-use Rattle.cells.specs.declared.Found.TheVariants.{At, Nothing}
 use Rattle.store.specs.Limits.{head_length, parents_at, parent_limit}
 use Rattle.store.specs.Tables.{Store, entries, spent, held, place_of, with_child, with_null, with_record, emptied}
 use Rattle.store.specs.Sound.{lengths_right}
@@ -134,18 +132,18 @@ module _ (t : Store) (x z : Id) (ps : List Id) (u : Store) (c : ℕ) (ns : ℕ �
       let b : v ≡ kept_new w (own_name t x ps) z (parent_name t x ps) (length ps) = k ∙ rw hc (record_cong (with_null w z) (own_name t x ps) (spent w) ns (parent_name t x ps) (length ps) hn) in
       rw (a, b)
 
-  genesis_here : (w : Store) (f : Found) (v : Store) → w ≡ held_entered u c ns (length ps) → f ≡ place_of w z → v ≡ kept_at f w c z (parent_name t x ps) (length ps) → v ≡ genesis_done t x z ps
+  genesis_here : (w : Store) (f : Option ℕ) (v : Store) → w ≡ held_entered u c ns (length ps) → f ≡ place_of w z → v ≡ kept_at f w c z (parent_name t x ps) (length ps) → v ≡ genesis_done t x z ps
   unfolding genesis_done
   genesis_here w f v e q k =
       let a : w ≡ held_entered (begun t x ps) (own_name t x ps) (parent_name t x ps) (length ps) = e ∙ rw (hu, hc) (held_cong (begun t x ps) (own_name t x ps) ns (parent_name t x ps) (length ps) hn) in
       k ∙ rw (q, ← a, hc)
 
   -- a genesis insert whose nullifier is there, and one whose nullifier is new
-  pub genesis_known : (w : Store) (f : Found) (p : ℕ) (v : Store) → w ≡ held_entered u c ns (length ps) → f ≡ place_of w z → f ≡ At p → v ≡ with_record w c p ns (length ps) → v ≡ genesis_done t x z ps
+  pub genesis_known : (w : Store) (f : Option ℕ) (p : ℕ) (v : Store) → w ≡ held_entered u c ns (length ps) → f ≡ place_of w z → f ≡ Some p → v ≡ with_record w c p ns (length ps) → v ≡ genesis_done t x z ps
   genesis_known w f p v e q h k =
       genesis_here w f v e q (k ∙ record_cong w c p ns (parent_name t x ps) (length ps) hn ∙ rw h)
 
-  pub genesis_new : (w : Store) (f : Found) (v : Store) → w ≡ held_entered u c ns (length ps) → f ≡ place_of w z → f ≡ Nothing → v ≡ kept_new w c z ns (length ps) → v ≡ genesis_done t x z ps
+  pub genesis_new : (w : Store) (f : Option ℕ) (v : Store) → w ≡ held_entered u c ns (length ps) → f ≡ place_of w z → f ≡ None → v ≡ kept_new w c z ns (length ps) → v ≡ genesis_done t x z ps
   genesis_new w f v e q h k =
       genesis_here w f v e q (k ∙ record_cong (with_null w z) c (spent w) ns (parent_name t x ps) (length ps) hn ∙ rw h)
 

@@ -1,4 +1,4 @@
--- Document 01's number and values for each reply.
+-- The number and the values of each reply.
 use Rattle.std.specs.Prelude.{ℕ, List, [], ◌∷◌, get_or}
 use Rattle.cells.specs.Cells.{Id}
 use Rattle.dag.specs.declared.answers.DagRefusal.{DagRefusal}

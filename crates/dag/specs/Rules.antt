@@ -1,8 +1,6 @@
--- The inserts and the emptying, in the words and the order of document 01, "Store rules".
-use Rattle.std.specs.Prelude.{ℕ, zero, suc, ◌+◌, Bool, true, false, not, List, length, ltb}
+-- The inserts and the emptying: what each call checks, in this order, what it answers and what it leaves.
+use Rattle.std.specs.Prelude.{ℕ, zero, suc, ◌+◌, Bool, true, false, not, List, length, ltb, Option, Some, None}
 use Rattle.cells.specs.Cells.{Id}
-use Rattle.cells.specs.declared.Found.{Found}
-use Rattle.cells.specs.declared.Found.TheVariants.{At, Nothing}
 use Rattle.store.specs.Limits.{parent_limit, fewest_parents, most_parents}
 use Rattle.store.specs.Tables.{Store, spent, held, is_spent, place_of, with_child, with_null, with_record, unmarked, emptied}
 use Rattle.store.specs.Sound.{lengths_right, store_bad}
@@ -114,9 +112,9 @@ insert_of t x z ps = by_verdict (insert_verdict t x z ps) t (insert_tried t x z 
 ------ the genesis insert
 
 -- no place is needed for a nullifier that is there already
-abbrev pub places_wanted : Found → ℕ
-places_wanted (At p) = 0
-places_wanted Nothing = 1
+abbrev pub places_wanted : Option ℕ → ℕ
+places_wanted (Some p) = 0
+places_wanted None = 1
 
 -- refused in the order 1, 2, 7, 8, 9
 unfoldable pub genesis_verdict : Store → Id → Id → List Id → Verdict
@@ -139,9 +137,9 @@ held_entered t c ns zero = t
 held_entered t c ns (suc n) = entered_if (held_entered t c ns n) (ns n) c
 
 -- nullifiers may repeat: one that is there keeps its place
-abbrev pub kept_at : Found → Store → ℕ → Id → (ℕ → ℕ) → ℕ → Store
-kept_at (At p) t c z ns k = with_record t c p ns k
-kept_at Nothing t c z ns k = kept_new t c z ns k
+abbrev pub kept_at : Option ℕ → Store → ℕ → Id → (ℕ → ℕ) → ℕ → Store
+kept_at (Some p) t c z ns k = with_record t c p ns k
+kept_at None t c z ns k = kept_new t c z ns k
 
 abbrev pub kept : Store → ℕ → Id → (ℕ → ℕ) → ℕ → Store
 kept t c z ns k = kept_at (place_of t z) t c z ns k

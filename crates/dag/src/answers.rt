@@ -1,4 +1,4 @@
-// What a call answers. A refusal is a case of DagRefusal; specs/Answers.antt gives document 01's number and values for each.
+// What a call answers. A refusal is a case of DagRefusal; specs/Answers.antt gives the number and the values of each.
 
 #[derive(Clone, Copy)]
 pub enum DagRefusal {

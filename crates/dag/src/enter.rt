@@ -13,7 +13,7 @@ pub fn is_held(links: &[u32], n: usize) -> bool
     requires { n < name_limit }
     ensures { (h k s d o p : List ℕ) → result ≡ held (store h k s d links.now o p) n }
 {
-    0 < cells::at32(links, PLACES_AT + n)
+    0 < cells::at(links, PLACES_AT + n)
 }
 
 // The parents in order, by number from place 1 on: each held one gets the child entry, and the first unheld one stops.
@@ -86,7 +86,7 @@ pub fn keep_new(
     ensures { (o p : List ℕ) → store head.new keys.new rests.new nodes.new links.new o p ≡ kept_new (store head.old keys.old rests.old nodes.old links.old o p) (get_or numbers 0 0) nullifier.now (λ j. get_or numbers (1 + j) 0) k }
 {
     let list = numbers;
-    let place = cells::at32(head, SPENT) as usize;
+    let place = cells::at(head, SPENT) as usize;
     store::keep_null(head, keys, rests, nullifier);
     store::keep_record(nodes, links, list[0] as usize, place, list, k);
 }

@@ -1,4 +1,4 @@
-// The checks of the inserts, in document 01's order. They read only.
+// The checks of the inserts: the first that fails is the answer. They read only.
 ghost use Rattle.std.specs.Prelude.{◌≡◌, List, ℕ, ◌≤◌, length, get_or};
 ghost use Rattle.store.specs.Limits.{parent_limit, child_limit};
 ghost use Rattle.store.specs.Tables.{store, place_of, is_spent};
@@ -8,7 +8,6 @@ ghost use Rattle.dag.specs.Judging.{Judges};
 ghost use Rattle.dag.specs.Begun.{NullParts};
 
 use crate::answers::{DagRefusal, Verdict};
-use cells::Found;
 use naming::Located;
 use store::limits::*;
 
@@ -39,21 +38,18 @@ fn refused(r: DagRefusal) -> Judged
 }
 
 // The place of a nullifier.
-pub fn place_of(head: &[u32], keys: &[u32], rests: &[u8], z: &[u8; 32]) -> Found
+pub fn place_of(head: &[u32], keys: &[u32], rests: &[u8], z: &[u8; 32]) -> Option<usize>
     requires { NullParts head.now keys.now rests.now }
     ensures { (n l o p : List ℕ) → result ≡ place_of (store head.now keys.now rests.now n l o p) z.now }
 {
-    cells::find_id(keys, rests, NULLS_AT, cells::at32(head, SPENT) as usize, z)
+    cells::find_id(keys, rests, NULLS_AT, cells::at(head, SPENT) as usize, z)
 }
 
 fn is_spent(head: &[u32], keys: &[u32], rests: &[u8], z: &[u8; 32]) -> bool
     requires { NullParts head.now keys.now rests.now }
     ensures { (n l o p : List ℕ) → result ≡ is_spent (store head.now keys.now rests.now n l o p) z.now }
 {
-    match place_of(head, keys, rests, z) {
-        Found::At(_) => true,
-        Found::Nothing => false,
-    }
+    place_of(head, keys, rests, z).is_some()
 }
 
 // How many places a genesis insert needs for its nullifier.
@@ -62,8 +58,8 @@ fn places_wanted(head: &[u32], keys: &[u32], rests: &[u8], z: &[u8; 32]) -> usiz
     ensures { (n l o p : List ℕ) → result ≡ places_wanted (place_of (store head.now keys.now rests.now n l o p) z.now) }
 {
     match place_of(head, keys, rests, z) {
-        Found::At(_) => 0,
-        Found::Nothing => 1,
+        Some(_) => 0,
+        None => 1,
     }
 }
 

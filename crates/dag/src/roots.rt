@@ -9,7 +9,6 @@ ghost use Rattle.dag.specs.Rules.{left, places_wanted, genesis_done, genesis_of}
 use crate::answers::{Reply, Verdict};
 use crate::enter::{enter_held, keep_new};
 use crate::judge::{judge_genesis, place_of};
-use cells::Found;
 use ident::Nullifier;
 use naming::Located;
 
@@ -39,8 +38,8 @@ fn apply_genesis(
     let k = parents.len();
     enter_held(head, nodes, links, numbers, k);
     match place_of(head, keys, rests, nullifier) {
-        Found::At(p) => store::keep_record(nodes, links, numbers[0] as usize, p, numbers, k),
-        Found::Nothing => keep_new(head, keys, rests, nodes, links, nullifier, numbers, k),
+        Some(p) => store::keep_record(nodes, links, numbers[0] as usize, p, numbers, k),
+        None => keep_new(head, keys, rests, nodes, links, nullifier, numbers, k),
     }
 }
 

@@ -1,20 +1,22 @@
 // Where a call's ids are. Each id is looked up once; the rest of a call reads the numbers.
-ghost use Rattle.std.specs.Prelude.{◌≡◌, cond, List, ℕ, suc, ◌+◌, ◌^◌, ◌≤◌, ◌<◌, length};
-ghost use Rattle.cells.specs.Cells.{Places, same_id, first_where, first_id};
-ghost use Rattle.store.specs.Limits.{parent_limit, names_at};
-ghost use Rattle.store.specs.Tables.{store, number_of};
-ghost use Rattle.naming.specs.Naming.{call_limit, NameParts, called};
+ghost use Rattle.std.specs.Prelude.{◌≡◌, Some, ℕ, ◌+◌, ◌^◌, ◌≤◌, ◌<◌};
+ghost use Rattle.cells.specs.Cells.{same_id, first_where};
+ghost use Rattle.store.specs.Tables.{names, number_of};
+ghost use Rattle.store.specs.Parts.{store_in};
+ghost use Rattle.naming.specs.Naming.{call_limit, NamesRight};
+ghost use Rattle.naming.specs.Calls.{ids, id_count};
 ghost use Rattle.naming.specs.Located.{Locates, nowhere, with_spot, spot_of};
 
-use cells::Found;
+use crate::called::Called;
+use store::Parts;
 use store::limits::*;
 
 // How many ids a call has at most: the first, and a full list.
 pub const CALL_LIMIT: usize = PARENT_LIMIT + 1;
 
 // The number of each of a call's ids once all are named, which of them are new, and how many those are. Place 0 is the
-// call's first id, place 1 + i the i-th of its list.
-#[derive(Clone, Copy)]
+// call's first id, place 1 + i the i-th of its list. The numbers stand by themselves, since a record takes its parents' as a slice.
+#[derive(Clone, Copy, Debug, PartialEq, Eq)]
 pub struct Located {
     pub numbers: [u16; CALL_LIMIT],
     pub new: [bool; CALL_LIMIT],
@@ -22,17 +24,10 @@ pub struct Located {
 }
 
 // The same of one id.
-#[derive(Clone, Copy)]
+#[derive(Clone, Copy, Debug, PartialEq, Eq)]
 struct Spot {
     number: u16,
     new: bool,
-}
-
-// 1 for a new id.
-fn count(new: bool) -> usize
-    ensures { (result ≡ cond new 1 0) × (result ≤ 1) }
-{
-    if new { 1 } else { 0 }
 }
 
 impl Located {
@@ -56,56 +51,43 @@ impl Located {
         numbers[place] = spot.number;
         new[place] = spot.new;
         Located {
-            numbers: numbers,
-            new: new,
-            fresh: self.fresh + count(spot.new),
+            numbers,
+            new,
+            fresh: self.fresh + usize::from(spot.new),
         }
     }
 }
 
-// The lowest earlier place of the call that has the i-th id of its list.
-fn earlier(id: &[u8; 32], others: &[[u8; 32]], i: usize) -> Found
-    requires { i < length others.now }
-    ensures { result ≡ first_where (λ j. same_id (called id.now others.now j) (called id.now others.now (suc i))) 0 (suc i) }
+// The lowest earlier place of the call that has the id at place i.
+fn earlier(call: &Called, i: usize) -> Option<usize>
+    requires { i < id_count call.now }
+    ensures { result ≡ first_where (λ j. same_id (ids call.now j) (ids call.now i)) 0 i }
 {
-    if cells::same_id(id, &others[i]) {
-        return Found::At(0);
-    }
-    let mut j: usize = 0;
-    while j < i {
-        if cells::same_id(&others[j], &others[i]) {
-            return Found::At(j + 1);
+    for j in 0..i {
+        if cells::same_id(call.get(j), call.get(i)) {
+            return Some(j);
         }
-        j += 1;
     }
-    Found::Nothing
+    None
 }
 
 // Where one id is: at the number of its earlier place, or of its name, or at the next free one.
-fn locate_one(
-    keys: &[u32],
-    rests: &[u8],
-    names: usize,
-    x: &[u8; 32],
-    place: Found,
-    at: Located,
-) -> Spot
-    requires { (Places keys.now rests.now (names_at + names) × (names + at.fresh < 2 ^ 16)) × ((j : ℕ) → place ≡ Found.At j → j < call_limit) }
-    ensures { result ≡ spot_of at (names + at.fresh) place (first_id keys.now rests.now names_at names x.now) }
+fn locate_one(parts: &Parts, x: &[u8; 32], place: Option<usize>, at: Located) -> Spot
+    requires { (NamesRight (store_in parts.now) × (names (store_in parts.now) + at.fresh < 2 ^ 16)) × ((j : ℕ) → place ≡ Some j → j < call_limit) }
+    ensures { result ≡ spot_of at (names (store_in parts.now) + at.fresh) place (number_of (store_in parts.now) x.now) }
 {
-    let numbers = at.numbers;
     match place {
-        Found::At(j) => Spot {
-            number: numbers[j],
+        Some(j) => Spot {
+            number: at.numbers[j],
             new: false,
         },
-        Found::Nothing => match cells::find_id(keys, rests, NAMES_AT, names, x) {
-            Found::At(n) => Spot {
+        None => match number_of(parts, x) {
+            Some(n) => Spot {
                 number: n as u16,
                 new: false,
             },
-            Found::Nothing => Spot {
-                number: (names + at.fresh) as u16,
+            None => Spot {
+                number: (parts.names() as usize + at.fresh) as u16,
                 new: true,
             },
         },
@@ -113,35 +95,21 @@ fn locate_one(
 }
 
 // The number of the id x: of equal names the lowest counts.
-pub fn number_of(head: &[u32], keys: &[u32], rests: &[u8], x: &[u8; 32]) -> Found
-    requires { NameParts head.now keys.now rests.now }
-    ensures { (n l o p : List ℕ) → result ≡ number_of (store head.now keys.now rests.now n l o p) x.now }
+pub fn number_of(parts: &Parts, x: &[u8; 32]) -> Option<usize>
+    requires { NamesRight (store_in parts.now) }
+    ensures { result ≡ number_of (store_in parts.now) x.now }
 {
-    cells::find_id(keys, rests, NAMES_AT, cells::at32(head, NAMES) as usize, x)
+    cells::find_id(parts.keys, parts.rests, NAMES_AT, parts.names() as usize, x)
 }
 
 // Where the ids of a call are: each is compared with the ids before it, and then searched for among the names.
-pub fn locate(
-    head: &[u32],
-    keys: &[u32],
-    rests: &[u8],
-    id: &[u8; 32],
-    others: &[[u8; 32]],
-) -> Located
-    requires { NameParts head.now keys.now rests.now × (length others.now ≤ parent_limit) }
-    ensures { (n l o p : List ℕ) → Locates (store head.now keys.now rests.now n l o p) (called id.now others.now) (suc (length others.now)) result }
+pub fn locate(parts: &Parts, call: &Called) -> Located
+    requires { NamesRight (store_in parts.now) × (id_count call.now ≤ call_limit) }
+    ensures { Locates (store_in parts.now) (ids call.now) (id_count call.now) result }
 {
-    let names = cells::at32(head, NAMES) as usize;
-    let none = Located::nowhere();
-    let mut at = none.with(0, locate_one(keys, rests, names, id, Found::Nothing, none));
-    let mut i: usize = 0;
-    while i < others.len() {
-        let before = earlier(id, others, i);
-        at = at.with(
-            1 + i,
-            locate_one(keys, rests, names, &others[i], before, at),
-        );
-        i += 1;
+    let mut at = Located::nowhere();
+    for i in 0..call.count() {
+        at = at.with(i, locate_one(parts, call.get(i), earlier(call, i), at));
     }
     at
 }

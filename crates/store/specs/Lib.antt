@@ -1,5 +1,6 @@
 pub mod Limits
 pub mod Tables
+pub mod Parts
 pub mod Sound
 pub mod Facts
 pub mod Columns

@@ -3,8 +3,10 @@
 #![tactic(auto)]
 
 pub mod limits;
+mod parts;
 mod sound;
 mod updates;
+mod views;
 
-pub use sound::{Counts, is_sound, lengths_right};
-pub use updates::{add_child, empty_head, keep_null, keep_record, unmark};
+pub use parts::Parts;
+pub use sound::Counts;

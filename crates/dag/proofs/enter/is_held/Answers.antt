@@ -5,5 +5,4 @@ use Rattle.dag.proofs.enter.is_held.Goals as goal
 
 pub returns : goal.returns
 returns c =
-    let at32 = c.at32 in
-    λ h k s d o p. ap (ltb 0) at32.ensures
+    λ h k s d o p. ap (ltb 0) c.at.ensures

@@ -9,5 +9,4 @@ pub returns : goal.returns
 returns c =
     let find-id = c.find_id in
     let args = c.args in
-    let at32 = c.at32 in
-    λ n l o p. find-id.ensures ∙ ap (λ (m : ℕ). first_id args.keys.now args.rests.now nulls_at m args.z.now) at32.ensures
+    λ n l o p. find-id.ensures ∙ ap (λ (m : ℕ). first_id args.keys.now args.rests.now nulls_at m args.z.now) c.at.ensures

@@ -118,7 +118,7 @@ keep_record-requires c =
     let w = store enter-held.new.head keys rests enter-held.new.nodes enter-held.new.links nonces tips in
     let went = enter-held.ensures keys rests nonces tips in
     let places = places_wanted (place_of t z) in
-    genesis_record t x ps places room at located u begun w went z _ _ (sought.ensures enter-held.new.nodes enter-held.new.links nonces tips) c.in-At.is
+    genesis_record t x ps places room at located u begun w went z _ _ (sought.ensures enter-held.new.nodes enter-held.new.links nonces tips) c.in-Some.is
 
 pub keep_new-requires : goal.keep_new-requires
 keep_new-requires c =
@@ -146,51 +146,51 @@ keep_new-requires c =
     let w = store enter-held.new.head keys rests enter-held.new.nodes enter-held.new.links nonces tips in
     let went = enter-held.ensures keys rests nonces tips in
     let places = places_wanted (place_of t z) in
-    genesis_keepable t x ps places room at located u begun w went z _ refl (sought.ensures enter-held.new.nodes enter-held.new.links nonces tips) c.in-Nothing.is
+    genesis_keepable t x ps places room at located u begun w went z _ refl (sought.ensures enter-held.new.nodes enter-held.new.links nonces tips) c.in-None.is
 
-pub shape_of-head-in-At : goal.shape_of-head-in-At
-shape_of-head-in-At c =
+pub shape_of-head-in-Some : goal.shape_of-head-in-Some
+shape_of-head-in-Some c =
     let enter-held = c.enter_held in
     let unmark = c.unmark in
     let name-all = c.name_all in
     omega (arith, enter-held.auto.head, unmark.auto.head, name-all.auto.head)
 
-pub shape_of-keys-in-At : goal.shape_of-keys-in-At
-shape_of-keys-in-At c =
+pub shape_of-keys-in-Some : goal.shape_of-keys-in-Some
+shape_of-keys-in-Some c =
     let name-all = c.name_all in
     omega (arith, name-all.auto.keys)
 
-pub shape_of-rests-in-At : goal.shape_of-rests-in-At
-shape_of-rests-in-At c =
+pub shape_of-rests-in-Some : goal.shape_of-rests-in-Some
+shape_of-rests-in-Some c =
     let name-all = c.name_all in
     omega (arith, name-all.auto.rests)
 
-pub shape_of-nodes-in-At : goal.shape_of-nodes-in-At
-shape_of-nodes-in-At c =
+pub shape_of-nodes-in-Some : goal.shape_of-nodes-in-Some
+shape_of-nodes-in-Some c =
     let keep-record = c.keep_record in
     let enter-held = c.enter_held in
     let name-all = c.name_all in
     omega (arith, keep-record.auto.nodes, enter-held.auto.nodes, name-all.auto.nodes)
 
-pub shape_of-links-in-At : goal.shape_of-links-in-At
-shape_of-links-in-At c =
+pub shape_of-links-in-Some : goal.shape_of-links-in-Some
+shape_of-links-in-Some c =
     let keep-record = c.keep_record in
     let enter-held = c.enter_held in
     let name-all = c.name_all in
     omega (arith, keep-record.auto.links, enter-held.auto.links, name-all.auto.links)
 
-pub shape_of-nonces-in-At : goal.shape_of-nonces-in-At
-shape_of-nonces-in-At c =
+pub shape_of-nonces-in-Some : goal.shape_of-nonces-in-Some
+shape_of-nonces-in-Some c =
     let name-all = c.name_all in
     omega (arith, name-all.auto.nonces)
 
-pub shape_of-tips-in-At : goal.shape_of-tips-in-At
-shape_of-tips-in-At c =
+pub shape_of-tips-in-Some : goal.shape_of-tips-in-Some
+shape_of-tips-in-Some c =
     let name-all = c.name_all in
     omega (arith, name-all.auto.tips)
 
-pub returns-in-At : goal.returns-in-At
-returns-in-At c =
+pub returns-in-Some : goal.returns-in-Some
+returns-in-Some c =
     let args = c.args in
     let unmark = c.unmark in
     let name-all = c.name_all in
@@ -219,54 +219,54 @@ returns-in-At c =
     let numbers = at.numbers in
     let child = get_or numbers 0 0 in
     let parents : ℕ → ℕ = λ j. get_or numbers (1 + j) 0 in
-    genesis_known t x z ps u child parents begun (own_located t x ps places room at located) (parent_located t x ps places room at located) w _ _ _ went (sought.ensures enter-held.new.nodes enter-held.new.links nonces tips) c.in-At.is (keep-record.ensures enter-held.new.head keys rests nonces tips)
+    genesis_known t x z ps u child parents begun (own_located t x ps places room at located) (parent_located t x ps places room at located) w _ _ _ went (sought.ensures enter-held.new.nodes enter-held.new.links nonces tips) c.in-Some.is (keep-record.ensures enter-held.new.head keys rests nonces tips)
 
-pub shape_of-head-in-Nothing : goal.shape_of-head-in-Nothing
-shape_of-head-in-Nothing c =
+pub shape_of-head-in-None : goal.shape_of-head-in-None
+shape_of-head-in-None c =
     let keep-new = c.keep_new in
     let enter-held = c.enter_held in
     let unmark = c.unmark in
     let name-all = c.name_all in
     omega (arith, keep-new.auto.head, enter-held.auto.head, unmark.auto.head, name-all.auto.head)
 
-pub shape_of-keys-in-Nothing : goal.shape_of-keys-in-Nothing
-shape_of-keys-in-Nothing c =
+pub shape_of-keys-in-None : goal.shape_of-keys-in-None
+shape_of-keys-in-None c =
     let keep-new = c.keep_new in
     let name-all = c.name_all in
     omega (arith, keep-new.auto.keys, name-all.auto.keys)
 
-pub shape_of-rests-in-Nothing : goal.shape_of-rests-in-Nothing
-shape_of-rests-in-Nothing c =
+pub shape_of-rests-in-None : goal.shape_of-rests-in-None
+shape_of-rests-in-None c =
     let keep-new = c.keep_new in
     let name-all = c.name_all in
     omega (arith, keep-new.auto.rests, name-all.auto.rests)
 
-pub shape_of-nodes-in-Nothing : goal.shape_of-nodes-in-Nothing
-shape_of-nodes-in-Nothing c =
+pub shape_of-nodes-in-None : goal.shape_of-nodes-in-None
+shape_of-nodes-in-None c =
     let keep-new = c.keep_new in
     let enter-held = c.enter_held in
     let name-all = c.name_all in
     omega (arith, keep-new.auto.nodes, enter-held.auto.nodes, name-all.auto.nodes)
 
-pub shape_of-links-in-Nothing : goal.shape_of-links-in-Nothing
-shape_of-links-in-Nothing c =
+pub shape_of-links-in-None : goal.shape_of-links-in-None
+shape_of-links-in-None c =
     let keep-new = c.keep_new in
     let enter-held = c.enter_held in
     let name-all = c.name_all in
     omega (arith, keep-new.auto.links, enter-held.auto.links, name-all.auto.links)
 
-pub shape_of-nonces-in-Nothing : goal.shape_of-nonces-in-Nothing
-shape_of-nonces-in-Nothing c =
+pub shape_of-nonces-in-None : goal.shape_of-nonces-in-None
+shape_of-nonces-in-None c =
     let name-all = c.name_all in
     omega (arith, name-all.auto.nonces)
 
-pub shape_of-tips-in-Nothing : goal.shape_of-tips-in-Nothing
-shape_of-tips-in-Nothing c =
+pub shape_of-tips-in-None : goal.shape_of-tips-in-None
+shape_of-tips-in-None c =
     let name-all = c.name_all in
     omega (arith, name-all.auto.tips)
 
-pub returns-in-Nothing : goal.returns-in-Nothing
-returns-in-Nothing c =
+pub returns-in-None : goal.returns-in-None
+returns-in-None c =
     let args = c.args in
     let unmark = c.unmark in
     let name-all = c.name_all in
@@ -295,4 +295,4 @@ returns-in-Nothing c =
     let numbers = at.numbers in
     let child = get_or numbers 0 0 in
     let parents : ℕ → ℕ = λ j. get_or numbers (1 + j) 0 in
-    genesis_new t x z ps u child parents begun (own_located t x ps places room at located) (parent_located t x ps places room at located) w _ _ went (sought.ensures enter-held.new.nodes enter-held.new.links nonces tips) c.in-Nothing.is (keep-new.ensures nonces tips)
+    genesis_new t x z ps u child parents begun (own_located t x ps places room at located) (parent_located t x ps places room at located) w _ _ went (sought.ensures enter-held.new.nodes enter-held.new.links nonces tips) c.in-None.is (keep-new.ensures nonces tips)

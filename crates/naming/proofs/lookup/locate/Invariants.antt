@@ -1,15 +1,9 @@
--- `naming::lookup::locate` meets its contract. The invariant: the first i + 1 ids of the call are located.
-use Prim.Native.Nat.{ℕ, suc, ◌-◌, ◌≤◌}
-use mathlib.Core.List.{List}
-use lib.ListN.{length}
-use Rattle.store.specs.Tables.{store}
-use Rattle.naming.specs.Naming.{called}
+-- The first i ids of the call are located.
+use Rattle.std.specs.Prelude.{◌≤◌}
+use Rattle.store.specs.Parts.{store_in}
+use Rattle.naming.specs.Calls.{ids, id_count}
 use Rattle.naming.specs.Located.{Locates, Whole}
 use Rattle.naming.proofs.lookup.locate.Given as goal
 
 abbrev pub invariant-loop-i : goal.invariant-loop-i
-invariant-loop-i l =
-    (l.i ≤ length l.others) × Whole l.at × ((n ls o p : List ℕ) → Locates (store l.head l.keys l.rests n ls o p) (called l.id l.others) (suc l.i) l.at)
-
-abbrev pub decreases-loop-i : goal.decreases-loop-i
-decreases-loop-i l = length l.others - l.i
+invariant-loop-i l = (l.i ≤ id_count l.call) × Whole l.at × Locates (store_in l.parts) (ids l.call) l.i l.at

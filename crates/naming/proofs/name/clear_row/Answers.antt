@@ -1,14 +1,7 @@
--- `naming::name::clear_row` meets its contract. Each part is cleared by its own call.
-use mathlib.Core.List.{List}
-use Prim.Native.Nat.{ℕ}
+-- Each part is cleared by its own call.
 use Rattle.naming.specs.Parts.{with_row}
 use Rattle.naming.proofs.name.clear_row.Goals as goal
 
-pub returns : goal.returns
+pub returns-clause-left : goal.returns-clause-left
 unfolding with_row
-returns c =
-    let clear-node = c.clear_node in
-    let clear-link = c.clear_link in
-    let put64 = c.put64 in
-    let remove = c.remove in
-    λ (h k r : List ℕ). rw (clear-node.ensures, clear-link.ensures, put64.ensures, remove.ensures)
+returns-clause-left c = rw (c.clear_node.ensures, c.clear_link.ensures, c.put.ensures, c.remove.ensures)

@@ -1,19 +1,7 @@
--- `naming::name::list_if` meets its contract. A new id is put after the last, and counted.
-use Prim.Native.Nat.{ℕ}
-use mathlib.Core.List.{List}
+-- The id goes after the last.
 use Rattle.naming.specs.Parts.{with_id}
 use Rattle.naming.proofs.name.list_if.Goals as goal
 
-pub returns-then-new : goal.returns-then-new
+pub returns-then-new-clause-left : goal.returns-then-new-clause-left
 unfolding with_id
-returns-then-new c =
-    let if1 = c.if-new in
-    let put32 = c.put32 in
-    let put_id = c.put_id in
-    let at32 = c.at32-n in
-    λ (n l o p : List ℕ). rw (if1.true, put32.ensures, put_id.ensures.0, put_id.ensures.1, at32.ensures)
-
-pub returns-else-new : goal.returns-else-new
-returns-else-new c =
-    let if1 = c.if-new in
-    λ (n l o p : List ℕ). rw if1.false
+returns-then-new-clause-left c = rw (c.if-new.true, c.put.ensures, c.put_id.ensures.0, c.put_id.ensures.1, c.names-n.ensures)

@@ -1,4 +1,4 @@
--- `naming::name::name_all` meets its contract. Listing the new ids and clearing as many rows is naming (`located_named`).
+-- Listing the new ids and clearing as many rows is naming.
 use native.Mathlib.Omega.{arith}
 use Rattle.naming.specs.Loops.{located_count}
 use Rattle.naming.proofs.NamedParts.{located_named}
@@ -11,18 +11,9 @@ list_all-requires c =
     (pre.0, (pre.1.0, omega (arith, count, pre.1.1.1)))
 
 pub clear_rows-requires : goal.clear_rows-requires
-clear_rows-requires c =
-    let at32 = c.at32-first in
-    let pre = c.requires in
-    omega (arith, at32.ensures, pre.1.1.1)
+clear_rows-requires c = omega (arith, c.names-first.ensures, c.requires.1.1.1)
 
-pub returns : goal.returns
-returns c =
+pub returns-clause-left : goal.returns-clause-left
+returns-clause-left c =
     let pre = c.requires in
-    let at32 = c.at32-first in
-    let list_all = c.list_all in
-    let args = c.args in
-    let clear-rows = c.clear_rows in
-    located_named _ _ _ _ pre.1.1.0 _ _ _ (omega (arith, pre.0.head_long)) at32.ensures
-    (list_all.ensures args.nodes.now args.links.now args.nonces.now args.tips.now)
-    (clear-rows.ensures list_all.new.head list_all.new.keys list_all.new.rests)
+    located_named _ _ _ _ pre.1.1.0 _ _ _ (omega (arith, pre.0.head_long)) c.names-first.ensures c.list_all.ensures.left c.clear_rows.ensures.left

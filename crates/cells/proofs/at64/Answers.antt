@@ -1,7 +1,0 @@
--- `cells::at64` meets its contract: a place within the length is read, and one past it is 0.
-use mathlib.Core.Path.{sym}
-use lib.ListN.{get_or-eq_default}
-use Rattle.cells.proofs.at64.Goals as goal
-
-pub returns-else-i-s : goal.returns-else-i-s
-returns-else-i-s c = sym (get_or-eq_default c.args.s.now 0 c.if-i-s.false)

@@ -1,8 +1,0 @@
--- `lengths_right` meets its contract: its test is the definition.
-use mathlib.Core.Path.{refl}
-use Rattle.store.specs.Sound.{lengths_right}
-use Rattle.store.proofs.sound.lengths_right.Goals as goal
-
-pub returns : goal.returns
-unfolding lengths_right
-returns c = refl

@@ -1,9 +1,0 @@
--- `unmark` meets its contract: it puts the one cell that `unmarked` puts.
-use Rattle.store.specs.Steps.{mark_made}
-use Rattle.store.proofs.updates.unmark.Goals as goal
-
-pub returns : goal.returns
-returns c =
-    let args = c.args in
-    let put32 = c.put32 in
-    λ k r n l o s. mark_made args.head.now _ k r n l o s put32.ensures

@@ -1,0 +1,47 @@
+// What single cells mean: the views of the store that the calls read.
+ghost use Rattle.std.specs.Prelude.{◌≡◌, ◌<◌};
+ghost use Rattle.store.specs.Limits.{name_limit};
+ghost use Rattle.store.specs.Tables.{names, entries, spent, held, last_entry};
+ghost use Rattle.store.specs.Parts.{store_in};
+
+use crate::limits::*;
+use crate::parts::Parts;
+
+impl Parts<'_> {
+    // How many ids are named.
+    pub fn names(&self) -> u32
+        ensures { result ≡ names (store_in self.now) }
+    {
+        cells::at(self.head, NAMES)
+    }
+
+    // How many child entries there are.
+    pub(crate) fn entries(&self) -> u32
+        ensures { result ≡ entries (store_in self.now) }
+    {
+        cells::at(self.head, ENTRIES)
+    }
+
+    // How many nullifiers there are.
+    pub fn spent(&self) -> u32
+        ensures { result ≡ spent (store_in self.now) }
+    {
+        cells::at(self.head, SPENT)
+    }
+
+    // Whether name n has a record.
+    pub fn is_held(&self, n: usize) -> bool
+        requires { n < name_limit }
+        ensures { result ≡ held (store_in self.now) n }
+    {
+        0 < cells::at(self.links, PLACES_AT + n)
+    }
+
+    // The last child entry of name n, and 1 more; 0 where it has none.
+    pub(crate) fn last_entry(&self, n: usize) -> u32
+        requires { n < name_limit }
+        ensures { result ≡ last_entry (store_in self.now) n }
+    {
+        cells::at(self.links, LASTS_AT + n)
+    }
+}
