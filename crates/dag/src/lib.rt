@@ -1,5 +1,5 @@
 // The store's first calls: emptying, the plain insert and the genesis insert. Each call checks all before it changes anything,
-// a refusal for an unheld parent aside (document 01, "Store rules").
+// a refusal for an unheld parent aside: the names and the entries of the parents before it stay.
 #![tactic(auto)]
 
 pub mod answers;
