@@ -1,4 +1,5 @@
 pub mod Naming
+pub mod Calls
 pub mod Numbers
 pub mod Located
 pub mod Parts

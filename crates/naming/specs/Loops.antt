@@ -1,9 +1,9 @@
 -- The loops of naming: one over the rows of the new names, one over the call's ids. That what was located is what is named stands in
 -- proofs/NamedParts.
 use Prim.Native.Nat.{ℕ, zero, suc, ◌+◌, ◌≤◌, ◌<◌}
-use Rattle.std.specs.Prelude.{◌≡◌, Bool, false, length}
+use Rattle.std.specs.Prelude.{◌≡◌, Bool, true, false, length}
 use Rattle.std.proofs.Math.Path.{refl, sym, ap}
-use Rattle.std.proofs.Common.{◌∙◌, add-one, one-add}
+use Rattle.std.proofs.Common.{◌∙◌, add-one, one-add, length-set}
 use Rattle.std.proofs.Math.Bool.{cond}
 use mathlib.Core.List.{List, []}
 use native.Mathlib.Omega.{arith}
@@ -11,12 +11,13 @@ use Rattle.std.proofs.Math.ListN.{get_or}
 use Rattle.bitset.specs.Sets.{count_below}
 use Rattle.bitset.specs.Counts.{count_same}
 use Rattle.cells.specs.Cells.{Id}
-use Rattle.store.specs.Limits.{name_limit}
-use Rattle.store.specs.Tables.{Store, store, names}
-use Rattle.naming.specs.Naming.{NameParts, called, is_new, fresh_count}
+use Rattle.cells.specs.Ids.{keys_put_length, rests_put_length}
+use Rattle.store.specs.Limits.{name_limit, names_at}
+use Rattle.store.specs.Tables.{Store, names}
+use Rattle.naming.specs.Naming.{NamesRight, called, is_new, fresh_count}
 use Rattle.naming.specs.Numbers.{count_further}
 use Rattle.naming.specs.Located.{Locates}
-use Rattle.naming.specs.Parts.{list_if, listed, with_row, cleared, list_if_names}
+use Rattle.naming.specs.Parts.{with_id, list_if, listed, with_row, cleared, list_if_names}
 use Rattle.naming.specs.declared.lookup.Located.{Located}
 
 ------ the rows
@@ -44,32 +45,47 @@ later new j = get_or new (1 + j) false
 abbrev pub rest : List Id → ℕ → Id
 rest ps j = get_or ps j []
 
--- the parts head, keys and rests once i of some ids are listed, and what they were before
-pub record Listing (h k r h₀ k₀ r₀ : List ℕ) (xs : ℕ → Id) (new : ℕ → Bool) (i : ℕ) : Type 0 where
-  pub parts : NameParts h k r
-  pub count : get_or h 0 0 ≡ get_or h₀ 0 0 + count_below new i
-  pub same : (n l o p : List ℕ) → store h k r n l o p ≡ listed (store h₀ k₀ r₀ n l o p) xs new i
+-- x after the last id leaves the names right, where there is room for it
+list_if_right : (b : Bool) (t : Store) (x : Id) → NamesRight t → names t + cond b 1 0 ≤ name_limit → NamesRight (list_if b t x)
+unfolding with_id
+list_if_right true t x a room =
+    let one : names (with_id t x) ≡ names t + 1 = list_if_names true t x (omega (arith, a.head_long)) in
+    record {
+      few = omega (arith, one);
+      head_long = length-set t.head 0 (names t + 1) ∙ a.head_long;
+      keys_long = keys_put_length t.keys t.rests (names_at + names t) x ∙ a.keys_long;
+      rests_long = rests_put_length t.keys t.rests (names_at + names t) x ∙ a.rests_long;
+    }
+list_if_right false t x a room = a
 
-listing_none : (h k r : List ℕ) (xs : ℕ → Id) (new : ℕ → Bool) → NameParts h k r → Listing h k r h k r xs new 0
+-- a store once i of some ids are listed, and what it was before
+pub record Listing (t t₀ : Store) (xs : ℕ → Id) (new : ℕ → Bool) (i : ℕ) : Type 0 where
+  pub right : NamesRight t
+  pub count : names t ≡ names t₀ + count_below new i
+  pub same : t ≡ listed t₀ xs new i
+
+pub listing_none : (t : Store) (xs : ℕ → Id) (new : ℕ → Bool) → NamesRight t → Listing t t xs new 0
 unfolding listed count_below
-listing_none h k r xs new a = record { parts = a; count = omega arith; same = λ (n l o p : List ℕ). refl }
+listing_none t xs new a = record { right = a; count = omega arith; same = refl }
 
-module _ (h k r h₀ k₀ r₀ : List ℕ) (xs : ℕ → Id) (new : ℕ → Bool) (i n : ℕ) (a : Listing h k r h₀ k₀ r₀ xs new i) (room : get_or h₀ 0 0 + count_below new n ≤ name_limit) (more : i < n) where
+module _ (t t₀ : Store) (xs : ℕ → Id) (new : ℕ → Bool) (i n : ℕ) (a : Listing t t₀ xs new i) (room : names t₀ + count_below new n ≤ name_limit) (more : i < n) where
   -- there is room for the next id
-  pub listing_room : get_or h 0 0 + cond (new i) 1 0 ≤ name_limit
+  pub listing_room : names t + cond (new i) 1 0 ≤ name_limit
   unfolding count_below
   listing_room = omega (arith, a.count, count_further new (suc i) n more)
 
-  pub listing_more : (h' k' r' : List ℕ) → length h' ≡ length h → length k' ≡ length k → length r' ≡ length r
-      → ((n l o p : List ℕ) → store h' k' r' n l o p ≡ list_if (new i) (store h k r n l o p) (xs i)) → Listing h' k' r' h₀ k₀ r₀ xs new (suc i)
+  pub listing_more : (u : Store) → u ≡ list_if (new i) t (xs i) → Listing u t₀ xs new (suc i)
   unfolding listed count_below
-  listing_more h' k' r' lh lk lr f =
-      let c : get_or h' 0 0 ≡ get_or h 0 0 + cond (new i) 1 0 = ap names (f [] [] [] []) ∙ list_if_names (new i) (store h k r [] [] [] []) (xs i) (omega (arith, a.parts.head_long)) in
+  listing_more u f =
+      let c : names u ≡ names t + cond (new i) 1 0 = ap names f ∙ list_if_names (new i) t (xs i) (omega (arith, a.right.head_long)) in
       record {
-        parts = record { few = omega (arith, listing_room); head_long = lh ∙ a.parts.head_long; keys_long = lk ∙ a.parts.keys_long; rests_long = lr ∙ a.parts.rests_long };
+        right = rw f (list_if_right (new i) t (xs i) a.right listing_room);
         count = omega (arith, a.count);
-        same = λ (n l o p : List ℕ). f n l o p ∙ rw (a.same n l o p);
+        same = f ∙ rw a.same;
       }
+
+pub listing_all : (t t₀ : Store) (xs : ℕ → Id) (new : ℕ → Bool) (i n : ℕ) → i ≤ n → n ≤ i → Listing t t₀ xs new i → t ≡ listed t₀ xs new n
+listing_all t t₀ xs new i n lo hi a = let e : n ≡ i = omega arith in rw e a.same
 
 -- the first id of a call, and then the others
 module _ (x : Id) (ps : List Id) (new : List Bool) where
@@ -83,27 +99,25 @@ module _ (x : Id) (ps : List Id) (new : List Bool) where
   listed_front t zero = refl
   listed_front t (suc n) = rw (one-add n, listed_front t n)
 
-  module _ (h₀ k₀ r₀ : List ℕ) (n : ℕ) (a : NameParts h₀ k₀ r₀) (room : get_or h₀ 0 0 + count_below (flag new) (suc n) ≤ name_limit) where
-    pub first_room : get_or h₀ 0 0 + cond (flag new 0) 1 0 ≤ name_limit
-    first_room = listing_room h₀ k₀ r₀ h₀ k₀ r₀ (called x ps) (flag new) 0 (suc n) (listing_none h₀ k₀ r₀ (called x ps) (flag new) a) room (omega arith)
+  module _ (t₀ : Store) (n : ℕ) (a : NamesRight t₀) (room : names t₀ + count_below (flag new) (suc n) ≤ name_limit) where
+    pub first_room : names t₀ + cond (flag new 0) 1 0 ≤ name_limit
+    first_room = listing_room t₀ t₀ (called x ps) (flag new) 0 (suc n) (listing_none t₀ (called x ps) (flag new) a) room (omega arith)
 
-    module _ (h k r : List ℕ) (lh : length h ≡ length h₀) (lk : length k ≡ length k₀) (lr : length r ≡ length r₀) (f : (u l o p : List ℕ) → store h k r u l o p ≡ list_if (flag new 0) (store h₀ k₀ r₀ u l o p) x) where
-      first_listed : Listing h k r h₀ k₀ r₀ (called x ps) (flag new) 1
-      first_listed =
-          listing_more h₀ k₀ r₀ h₀ k₀ r₀ (called x ps) (flag new) 0 (suc n) (listing_none h₀ k₀ r₀ (called x ps) (flag new) a) room (omega arith) h k r lh lk lr f
+    module _ (t : Store) (f : t ≡ list_if (flag new 0) t₀ x) where
+      first_listed : Listing t t₀ (called x ps) (flag new) 1
+      first_listed = listing_more t₀ t₀ (called x ps) (flag new) 0 (suc n) (listing_none t₀ (called x ps) (flag new) a) room (omega arith) t f
 
-      pub rest_start : Listing h k r h k r (rest ps) (later new) 0
-      rest_start = listing_none h k r (rest ps) (later new) first_listed.parts
+      pub rest_start : Listing t t (rest ps) (later new) 0
+      rest_start = listing_none t (rest ps) (later new) first_listed.right
 
-      pub rest_room : get_or h 0 0 + count_below (later new) n ≤ name_limit
+      pub rest_room : names t + count_below (later new) n ≤ name_limit
       unfolding count_below
       rest_room = omega (arith, first_listed.count, count_front n)
 
-      pub all_listed : (h' k' r' : List ℕ) (i : ℕ) → i ≤ n → n ≤ i → Listing h' k' r' h k r (rest ps) (later new) i
-          → (u l o p : List ℕ) → store h' k' r' u l o p ≡ listed (store h₀ k₀ r₀ u l o p) (called x ps) (flag new) (suc n)
-      all_listed h' k' r' i lo hi c u l o p =
+      pub all_listed : (u : Store) (i : ℕ) → i ≤ n → n ≤ i → Listing u t (rest ps) (later new) i → u ≡ listed t₀ (called x ps) (flag new) (suc n)
+      all_listed u i lo hi c =
           let e : n ≡ i = omega arith in
-          rw e (c.same u l o p ∙ rw (f u l o p) (listed_front (store h₀ k₀ r₀ u l o p) i))
+          rw e (c.same ∙ rw f (listed_front t₀ i))
 
 ------ what was located
 

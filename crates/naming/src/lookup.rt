@@ -1,12 +1,13 @@
 // Where a call's ids are. Each id is looked up once; the rest of a call reads the numbers.
-ghost use Rattle.std.specs.Prelude.{◌≡◌, cond, ℕ, suc, ◌+◌, ◌^◌, ◌≤◌, ◌<◌, length};
-ghost use Rattle.cells.specs.Cells.{Places, same_id, first_where, first_id};
-ghost use Rattle.store.specs.Limits.{parent_limit, names_at};
+ghost use Rattle.std.specs.Prelude.{◌≡◌, ℕ, ◌+◌, ◌^◌, ◌≤◌, ◌<◌};
+ghost use Rattle.cells.specs.Cells.{same_id, first_where};
 ghost use Rattle.store.specs.Tables.{names, number_of};
 ghost use Rattle.store.specs.Parts.{store_in};
-ghost use Rattle.naming.specs.Naming.{call_limit, NamesRight, called};
+ghost use Rattle.naming.specs.Naming.{call_limit, NamesRight};
+ghost use Rattle.naming.specs.Calls.{ids, id_count};
 ghost use Rattle.naming.specs.Located.{Locates, nowhere, with_spot, spot_of};
 
+use crate::called::Called;
 use cells::Found;
 use store::Parts;
 use store::limits::*;
@@ -15,8 +16,8 @@ use store::limits::*;
 pub const CALL_LIMIT: usize = PARENT_LIMIT + 1;
 
 // The number of each of a call's ids once all are named, which of them are new, and how many those are. Place 0 is the
-// call's first id, place 1 + i the i-th of its list.
-#[derive(Clone, Copy)]
+// call's first id, place 1 + i the i-th of its list. The numbers stand by themselves, since a record takes its parents' as a slice.
+#[derive(Clone, Copy, Debug, PartialEq, Eq)]
 pub struct Located {
     pub numbers: [u16; CALL_LIMIT],
     pub new: [bool; CALL_LIMIT],
@@ -24,17 +25,10 @@ pub struct Located {
 }
 
 // The same of one id.
-#[derive(Clone, Copy)]
+#[derive(Clone, Copy, Debug, PartialEq, Eq)]
 struct Spot {
     number: u16,
     new: bool,
-}
-
-// 1 for a new id.
-fn count(new: bool) -> usize
-    ensures { (result ≡ cond new 1 0) × (result ≤ 1) }
-{
-    if new { 1 } else { 0 }
 }
 
 impl Located {
@@ -60,22 +54,19 @@ impl Located {
         Located {
             numbers,
             new,
-            fresh: self.fresh + count(spot.new),
+            fresh: self.fresh + usize::from(spot.new),
         }
     }
 }
 
-// The lowest earlier place of the call that has the i-th id of its list.
-fn earlier(id: &[u8; 32], others: &[[u8; 32]], i: usize) -> Found
-    requires { i < length others.now }
-    ensures { result ≡ first_where (λ j. same_id (called id.now others.now j) (called id.now others.now (suc i))) 0 (suc i) }
+// The lowest earlier place of the call that has the id at place i.
+fn earlier(call: &Called, i: usize) -> Found
+    requires { i < id_count call.now }
+    ensures { result ≡ first_where (λ j. same_id (ids call.now j) (ids call.now i)) 0 i }
 {
-    if cells::same_id(id, &others[i]) {
-        return Found::At(0);
-    }
-    for (j, other) in others[..i].iter().enumerate() {
-        if cells::same_id(other, &others[i]) {
-            return Found::At(j + 1);
+    for j in 0..i {
+        if cells::same_id(call.get(j), call.get(i)) {
+            return Found::At(j);
         }
     }
     Found::Nothing
@@ -113,15 +104,13 @@ pub fn number_of(parts: &Parts, x: &[u8; 32]) -> Found
 }
 
 // Where the ids of a call are: each is compared with the ids before it, and then searched for among the names.
-pub fn locate(parts: &Parts, id: &[u8; 32], others: &[[u8; 32]]) -> Located
-    requires { NamesRight (store_in parts.now) × (length others.now ≤ parent_limit) }
-    ensures { Locates (store_in parts.now) (called id.now others.now) (suc (length others.now)) result }
+pub fn locate(parts: &Parts, call: &Called) -> Located
+    requires { NamesRight (store_in parts.now) × (id_count call.now ≤ call_limit) }
+    ensures { Locates (store_in parts.now) (ids call.now) (id_count call.now) result }
 {
-    let none = Located::nowhere();
-    let mut at = none.with(0, locate_one(parts, id, Found::Nothing, none));
-    for (i, other) in others.iter().enumerate() {
-        let before = earlier(id, others, i);
-        at = at.with(1 + i, locate_one(parts, other, before, at));
+    let mut at = Located::nowhere();
+    for i in 0..call.count() {
+        at = at.with(i, locate_one(parts, call.get(i), earlier(call, i), at));
     }
     at
 }

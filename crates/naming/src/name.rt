@@ -1,14 +1,16 @@
 // The new ids of a call named: each goes after the last, and its row becomes that of a name never seen.
-ghost use Rattle.std.specs.Prelude.{◌≡◌, cond, suc, ◌+◌, ◌≤◌, ◌<◌, length};
+ghost use Rattle.std.specs.Prelude.{◌≡◌, cond, ◌+◌, ◌≤◌, ◌<◌};
 ghost use Rattle.bitset.specs.Sets.{count_below};
-ghost use Rattle.store.specs.Limits.{name_limit, parent_limit};
+ghost use Rattle.store.specs.Limits.{name_limit};
 ghost use Rattle.store.specs.Tables.{names, fresh_node, fresh_link};
 ghost use Rattle.store.specs.Parts.{store_in, SameSlices};
-ghost use Rattle.naming.specs.Naming.{NamesRight, called, named};
+ghost use Rattle.naming.specs.Naming.{call_limit, NamesRight, named};
+ghost use Rattle.naming.specs.Calls.{ids, id_count};
 ghost use Rattle.naming.specs.Located.{Locates};
 ghost use Rattle.naming.specs.Parts.{list_if, listed, with_row, cleared};
 ghost use Rattle.naming.specs.Loops.{flag};
 
+use crate::called::Called;
 use crate::lookup::{CALL_LIMIT, Located};
 use store::Parts;
 use store::limits::*;
@@ -27,14 +29,13 @@ fn list_if(parts: &mut Parts, x: &[u8; 32], new: bool)
 }
 
 // The new ids after the last, in argument order.
-fn list_all(parts: &mut Parts, id: &[u8; 32], others: &[[u8; 32]], new: [bool; CALL_LIMIT])
-    requires { NamesRight (store_in parts.old) × ((length others.now ≤ parent_limit) × (names (store_in parts.old) + count_below (flag new) (suc (length others.now)) ≤ name_limit)) }
-    ensures left { store_in parts.new ≡ listed (store_in parts.old) (called id.now others.now) (flag new) (suc (length others.now)) }
+fn list_all(parts: &mut Parts, call: &Called, new: [bool; CALL_LIMIT])
+    requires { NamesRight (store_in parts.old) × ((id_count call.now ≤ call_limit) × (names (store_in parts.old) + count_below (flag new) (id_count call.now) ≤ name_limit)) }
+    ensures left { store_in parts.new ≡ listed (store_in parts.old) (ids call.now) (flag new) (id_count call.now) }
     ensures same { SameSlices parts.old parts.new }
 {
-    list_if(parts, id, new[0]);
-    for (i, other) in others.iter().enumerate() {
-        list_if(parts, other, new[1 + i]);
+    for i in 0..call.count() {
+        list_if(parts, call.get(i), new[i]);
     }
 }
 
@@ -83,12 +84,12 @@ fn clear_rows(parts: &mut Parts, from: usize, count: usize)
 }
 
 // The new ids of a call named, in argument order.
-pub fn name_all(parts: &mut Parts, id: &[u8; 32], others: &[[u8; 32]], at: Located)
-    requires { NamesRight (store_in parts.old) × ((length others.now ≤ parent_limit) × (Locates (store_in parts.old) (called id.now others.now) (suc (length others.now)) at × (names (store_in parts.old) + at.fresh ≤ name_limit))) }
-    ensures left { store_in parts.new ≡ named (store_in parts.old) (called id.now others.now) (suc (length others.now)) }
+pub fn name_all(parts: &mut Parts, call: &Called, at: Located)
+    requires { NamesRight (store_in parts.old) × ((id_count call.now ≤ call_limit) × (Locates (store_in parts.old) (ids call.now) (id_count call.now) at × (names (store_in parts.old) + at.fresh ≤ name_limit))) }
+    ensures left { store_in parts.new ≡ named (store_in parts.old) (ids call.now) (id_count call.now) }
     ensures same { SameSlices parts.old parts.new }
 {
     let first = parts.names() as usize;
-    list_all(parts, id, others, at.new);
+    list_all(parts, call, at.new);
     clear_rows(parts, first, at.fresh);
 }

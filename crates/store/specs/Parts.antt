@@ -1,5 +1,6 @@
 -- The store that stands in seven lent parts.
-use Rattle.std.specs.Prelude.{◌≡◌}
+use Rattle.std.specs.Prelude.{◌≡◌, refl}
+use Rattle.std.proofs.Common.{◌∙◌}
 use Rattle.store.specs.Tables.{Store, store}
 use Rattle.store.specs.declared.parts.Parts.{Parts}
 
@@ -16,3 +17,19 @@ pub record SameSlices (before after : Parts) : Type 0 where
   pub links : after.links.ghost_name ≡ before.links.ghost_name
   pub nonces : after.nonces.ghost_name ≡ before.nonces.ghost_name
   pub tips : after.tips.ghost_name ≡ before.tips.ghost_name
+
+pub same_start : (p : Parts) → SameSlices p p
+same_start p = record { head = refl; keys = refl; rests = refl; nodes = refl; links = refl; nonces = refl; tips = refl }
+
+-- one call after another
+pub same_then : {p q r : Parts} → SameSlices p q → SameSlices q r → SameSlices p r
+same_then a b =
+    record {
+      head = b.head ∙ a.head;
+      keys = b.keys ∙ a.keys;
+      rests = b.rests ∙ a.rests;
+      nodes = b.nodes ∙ a.nodes;
+      links = b.links ∙ a.links;
+      nonces = b.nonces ∙ a.nonces;
+      tips = b.tips ∙ a.tips;
+    }
