@@ -1,9 +1,12 @@
 -- The parents gone through in order, and what a call leaves by each way through its code.
 use Prim.Native.Nat.{ℕ, zero, suc, ◌+◌, ◌*◌, ◌-◌, ◌≤◌, ◌<◌}
-use Rattle.std.specs.Prelude.{◌≡◌, refl, Bool, true, false, List, length, get_or, Ok, Err}
+use Rattle.std.specs.Prelude.{◌≡◌, refl, Bool, true, false, List, length, get_or, take, Ok, Err, ⊤, MatchResult, IsErrAnd}
 use Rattle.std.proofs.Math.Path.{sym}
-use Rattle.std.proofs.Common.{ap, ◌∙◌, add-one, get_or-set_same}
+use Rattle.std.proofs.Common.{ap, ◌∙◌, add-one, length-set, get_or-set_same}
 use native.Mathlib.Omega.{arith}
+use Rattle.std.proofs.Math.ListN.{drop}
+use Rattle.std.proofs.lemmas.List.{get_or-take, length-take-le, length-drop}
+use Rattle.std.proofs.lemmas.Grind.{get_or_after_one}
 use Rattle.cells.specs.Cells.{Id}
 use Rattle.cells.specs.Rows.{put_cong}
 use Rattle.cells.specs.declared.Found.{Found}
@@ -11,9 +14,12 @@ use Rattle.cells.specs.declared.Found.TheVariants.{At, Nothing}
 use Rattle.store.specs.Limits.{head_length, parents_at, parent_limit}
 use Rattle.store.specs.Tables.{Store, entries, spent, held, place_of, with_child, with_null, with_record, emptied}
 use Rattle.store.specs.Sound.{lengths_right}
+use Rattle.naming.specs.Naming.{call_limit, called}
+use Rattle.naming.specs.Located.{Locates}
+use Rattle.naming.specs.declared.lookup.Located.{Located}
 use Rattle.dag.specs.declared.answers.DagRefusal.TheVariants.{StoreBad, MissingParent}
 use Rattle.dag.specs.declared.answers.DagRefusal.{DagRefusal}
-use Rattle.dag.specs.Rules.{Verdict, Entered, Left, left, empty_of, walked, pick_walked, entered, begun, own_name, parent_name, kept_new, insert_verdict, insert_tried, insert_of, entered_if, pick_store, held_entered, kept_at, genesis_verdict, genesis_done, genesis_of}
+use Rattle.dag.specs.Rules.{Reply, Verdict, Entered, Left, left, empty_of, walked, pick_walked, entered, begun, own_name, parent_name, kept_new, insert_verdict, insert_tried, insert_of, entered_if, pick_store, held_entered, kept_at, genesis_verdict, genesis_done, genesis_of}
 
 ------ names read from a list stand for the names themselves
 
@@ -22,6 +28,21 @@ pub record Names (t : Store) (x : Id) (ps : List Id) (c : ℕ) (ns : List ℕ) :
   pub own : c ≡ own_name t x ps
   pub count : length ns ≡ length ps
   pub parents : (j : ℕ) → j < length ps → get_or ns j 0 ≡ parent_name t x ps j
+
+-- the first of the located numbers is the record's own name, and those after it are its parents' names
+module _ (t : Store) (x : Id) (ps : List Id) (at : Located) (long : length at.numbers ≡ call_limit) (short : length ps ≤ parent_limit) (l : Locates t (called x ps) (suc (length ps)) at) where
+  parent_here : (j : ℕ) → j < length ps → get_or (take (length ps + 1 - 1) (drop 1 at.numbers)) j 0 ≡ parent_name t x ps j
+  parent_here j h =
+      let e : 1 + j ≡ suc j = omega arith in
+      get_or-take (length ps + 1 - 1) (drop 1 at.numbers) j 0 (omega arith) ∙ get_or_after_one at.numbers j 0 ∙ rw e (l.numbers (suc j) (omega arith))
+
+  pub names_located : Names t x ps (get_or at.numbers 0 0) (take (length ps + 1 - 1) (drop 1 at.numbers))
+  names_located =
+      record {
+        own = l.numbers 0 (omega arith);
+        count = omega (arith, length-take-le (length ps + 1 - 1) (drop 1 at.numbers) (omega (arith, length-drop 1 at.numbers)));
+        parents = parent_here;
+      }
 
 record_cong : (t : Store) (c p : ℕ) (ns ms : ℕ → ℕ) (k : ℕ) → ((j : ℕ) → j < k → ns j ≡ ms j) → with_record t c p ns k ≡ with_record t c p ms k
 unfolding with_record
@@ -47,12 +68,23 @@ pub child_count : (t : Store) (p c : ℕ) → length t.head ≡ head_length → 
 unfolding with_child
 child_count t p c l = get_or-set_same t.head 1 (entries t + 1) 0 (omega arith)
 
+pub child_long : (t : Store) (p c : ℕ) → length (with_child t p c).head ≡ length t.head
+unfolding with_child
+child_long t p c = length-set t.head 1 (entries t + 1)
+
 count_by : (t : Store) (p c : ℕ) (b : Bool) → length t.head ≡ head_length → entries (pick_store b (with_child t p c) t) ≤ entries t + 1
 count_by t p c true l = omega (arith, child_count t p c l)
 count_by t p c false l = omega arith
 
 pub if_count : (t : Store) (p c : ℕ) → length t.head ≡ head_length → entries (entered_if t p c) ≤ entries t + 1
 if_count t p c = count_by t p c (held t p)
+
+long_by : (t : Store) (p c : ℕ) (b : Bool) → length (pick_store b (with_child t p c) t).head ≡ length t.head
+long_by t p c true = child_long t p c
+long_by t p c false = refl
+
+pub if_long : (t : Store) (p c : ℕ) → length (entered_if t p c).head ≡ length t.head
+if_long t p c = long_by t p c (held t p)
 
 module _ (t : Store) (p c : ℕ) (b : Bool) (hb : b ≡ held t p) where
   pub if_held : (u : Store) → b ≡ true → u ≡ with_child t p c → u ≡ entered_if t p c
@@ -96,6 +128,25 @@ pub held_end : (t u : Store) (c : ℕ) (ns : ℕ → ℕ) (n k : ℕ) → n ≤ 
 held_end t u c ns n k a b e = let q : k ≡ n = omega arith in rw q e
 
 ------ the calls
+
+-- `?` passes a refusal on as it is
+pub passed_on : (q : Reply) (d : DagRefusal) → IsErrAnd q (λ e. e ≡ d) → q ≡ Err d
+passed_on (Ok u) d h = absurd h
+passed_on (Err e) d h = ap Err h
+
+-- the walk's end made a reply
+abbrev pub IsMissing : Entered → Reply → Type 0
+IsMissing r m = MatchResult r (λ u. m ≡ Ok u) (λ i. IsErrAnd m (λ e. e ≡ MissingParent i))
+
+pub missing_at : (r : Entered) (m : Reply) (d : DagRefusal) → IsMissing r m → m ≡ Err d → (i : ℕ) × (r ≡ Err i) × (d ≡ MissingParent i)
+missing_at (Ok u) m d h e = absurd (let z : ◌≡◌ {A = ℕ} 0 1 = cc in omega arith)
+missing_at (Err i) (Ok u) d h e = absurd h
+missing_at (Err i) (Err n) d h e = (i, refl, cc)
+
+pub none_missing : (r : Entered) (m : Reply) (u : ⊤) → IsMissing r m → m ≡ Ok u → r ≡ Ok tt
+none_missing (Ok v) m u h e = refl
+none_missing (Err i) (Ok v) u h e = absurd h
+none_missing (Err i) (Err n) u h e = absurd (let z : ◌≡◌ {A = ℕ} 0 1 = cc in omega arith)
 
 -- only the lengths decide whether a store is emptied
 module _ (t : Store) (b : Bool) (hb : b ≡ lengths_right t) where

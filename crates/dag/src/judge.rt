@@ -10,7 +10,7 @@ ghost use Rattle.dag.specs.Begun.{NullsRight};
 
 use crate::answers::DagRefusal;
 use cells::Found;
-use naming::Located;
+use naming::{Called, Located};
 use store::Parts;
 use store::limits::*;
 
@@ -58,7 +58,7 @@ fn judge_room(
     requires { Sound (store_in parts.now) × (length parents.now ≤ parent_limit) }
     ensures { Judges (store_in parts.now) id.now parents.now (room_verdict (store_in parts.now) id.now parents.now places) result }
 {
-    let at = naming::locate(parts, id, parents);
+    let at = naming::locate(parts, &Called { id, others: parents });
     let used = parts.counts();
     if NAME_LIMIT - used.names < at.fresh {
         return Err(DagRefusal::NameRoom);

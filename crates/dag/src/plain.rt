@@ -10,7 +10,7 @@ use crate::answers::DagRefusal;
 use crate::enter::{enter, keep_new};
 use crate::judge::judge_insert;
 use ident::Nullifier;
-use naming::Located;
+use naming::{Called, Located};
 use store::Parts;
 
 // All that is left once the checks are passed: names, entries, and where every parent is held the nullifier and the record.
@@ -25,7 +25,7 @@ fn apply_insert(
     ensures left { left result (store_in parts.new) ≡ insert_tried (store_in parts.old) id.now nullifier.now parents.now }
     ensures same { SameSlices parts.old parts.new }
 {
-    naming::name_all(parts, id, parents, at);
+    naming::name_all(parts, &Called { id, others: parents }, at);
     parts.unmark();
     let child = at.numbers[0];
     let names = &at.numbers[1..=parents.len()];

@@ -12,7 +12,7 @@ use crate::enter::{enter_held, keep_new};
 use crate::judge::{judge_genesis, place_of};
 use cells::Found;
 use ident::Nullifier;
-use naming::Located;
+use naming::{Called, Located};
 use store::Parts;
 
 // All that is left once the checks are passed: names, entries for the parents that are held, the record, and its nullifier
@@ -28,7 +28,7 @@ fn apply_genesis(
     ensures left { store_in parts.new ≡ genesis_done (store_in parts.old) id.now nullifier.now parents.now }
     ensures same { SameSlices parts.old parts.new }
 {
-    naming::name_all(parts, id, parents, at);
+    naming::name_all(parts, &Called { id, others: parents }, at);
     parts.unmark();
     let child = at.numbers[0];
     let names = &at.numbers[1..=parents.len()];

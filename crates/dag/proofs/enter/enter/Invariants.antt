@@ -6,8 +6,8 @@ use Rattle.store.specs.Parts.{store_in, SameSlices}
 use Rattle.dag.specs.Rules.{entered}
 use Rattle.dag.proofs.enter.enter.Given as goal
 
-abbrev pub invariant-loop-parent : goal.invariant-loop-parent
-invariant-loop-parent l =
+abbrev pub invariant-loop-i : goal.invariant-loop-i
+invariant-loop-i l =
     (length l.parts.head.now ≡ head_length)
     × (entries (store_in l.parts) + (length l.parents - l.i) ≤ child_limit)
     × SameSlices l.initial.parts l.parts

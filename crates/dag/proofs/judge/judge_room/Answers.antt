@@ -1,11 +1,12 @@
 -- Each way out is one case of the verdict; a fine one has the call's ids as they were located.
+use Rattle.std.proofs.Common.{arith}
 use Rattle.dag.specs.Judging.{judges_refused, judges_fine, room_names, room_children, room_nulls, room_fine}
 use Rattle.dag.specs.Begun.{name_parts}
 use Rattle.store.specs.Parts.{store_in}
 use Rattle.dag.proofs.judge.judge_room.Goals as goal
 
 pub locate-at-requires : goal.locate-at-requires
-locate-at-requires c = (name_parts (store_in c.args.parts.now) c.requires.0, c.requires.1)
+locate-at-requires c = (name_parts (store_in c.args.parts.now) c.requires.0, omega (arith, c.requires.1))
 
 pub returns-then-used-at : goal.returns-then-used-at
 returns-then-used-at c = judges_refused _ _ _ _ _ (room_names (store_in c.args.parts.now) _ _ _ _ c.counts-used.ensures _ c.locate-at.ensures.fresh c.if-used-at.true)
