@@ -19,7 +19,7 @@ use Rattle.naming.specs.Located.{Locates}
 use Rattle.naming.specs.declared.lookup.Located.{Located}
 use Rattle.dag.specs.declared.answers.DagRefusal.TheVariants.{StoreBad, MissingParent}
 use Rattle.dag.specs.declared.answers.DagRefusal.{DagRefusal}
-use Rattle.dag.specs.Rules.{Reply, Verdict, Entered, Left, left, empty_of, walked, pick_walked, entered, begun, own_name, parent_name, kept_new, insert_verdict, insert_tried, insert_of, entered_if, pick_store, held_entered, kept_at, genesis_verdict, genesis_done, genesis_of}
+use Rattle.dag.specs.Rules.{Reply, Entered, Left, left, empty_of, walked, pick_walked, entered, begun, own_name, parent_name, kept_new, insert_verdict, insert_tried, insert_of, entered_if, pick_store, held_entered, kept_at, genesis_verdict, genesis_done, genesis_of}
 
 ------ names read from a list stand for the names themselves
 
@@ -199,19 +199,19 @@ module _ (t : Store) (x z : Id) (ps : List Id) (u : Store) (c : ℕ) (ns : List 
   pub genesis_new : (w : Store) (f : Found) (v : Store) → w ≡ held_entered u c (λ j. get_or ns j 0) (length ns) → f ≡ place_of w z → f ≡ Nothing → v ≡ kept_new w c z (λ j. get_or ns j 0) (length ns) → v ≡ genesis_done t x z ps
   genesis_new w f v e q h k = genesis_here w f v e q (k ∙ record_here (with_null w z) (spent w) ∙ rw h)
 
-module _ (t : Store) (x z : Id) (ps : List Id) (v : Verdict) where
-  pub insert_refused : (d : DagRefusal) → v ≡ insert_verdict t x z ps → v ≡ Err d → left (Err d) t ≡ insert_of t x z ps
+module _ (t : Store) (x z : Id) (ps : List Id) where
+  pub insert_refused : (d : DagRefusal) → insert_verdict t x z ps ≡ Err d → left (Err d) t ≡ insert_of t x z ps
   unfolding insert_of
-  insert_refused d e q = rw (← e, q)
+  insert_refused d e = rw e
 
-  pub insert_tried_lem : (l : Left) → v ≡ insert_verdict t x z ps → v ≡ Ok tt → l ≡ insert_tried t x z ps → l ≡ insert_of t x z ps
+  pub insert_tried_lem : (l : Left) → insert_verdict t x z ps ≡ Ok tt → l ≡ insert_tried t x z ps → l ≡ insert_of t x z ps
   unfolding insert_of
-  insert_tried_lem l e q k = rw (← e, q) k
+  insert_tried_lem l e k = rw e k
 
-  pub genesis_refused : (d : DagRefusal) → v ≡ genesis_verdict t x z ps → v ≡ Err d → left (Err d) t ≡ genesis_of t x z ps
+  pub genesis_refused : (d : DagRefusal) → genesis_verdict t x z ps ≡ Err d → left (Err d) t ≡ genesis_of t x z ps
   unfolding genesis_of
-  genesis_refused d e q = rw (← e, q)
+  genesis_refused d e = rw e
 
-  pub genesis_done_lem : (u : Store) → v ≡ genesis_verdict t x z ps → v ≡ Ok tt → u ≡ genesis_done t x z ps → left (Ok tt) u ≡ genesis_of t x z ps
+  pub genesis_done_lem : (u : Store) → genesis_verdict t x z ps ≡ Ok tt → u ≡ genesis_done t x z ps → left (Ok tt) u ≡ genesis_of t x z ps
   unfolding genesis_of
-  genesis_done_lem u e q k = rw (← e, q) (ap (left (Ok tt)) k)
+  genesis_done_lem u e k = rw e (ap (left (Ok tt)) k)

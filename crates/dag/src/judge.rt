@@ -58,7 +58,13 @@ fn judge_room(
     requires { Sound (store_in parts.now) × (length parents.now ≤ parent_limit) }
     ensures { Judges (store_in parts.now) id.now parents.now (room_verdict (store_in parts.now) id.now parents.now places) result }
 {
-    let at = naming::locate(parts, &Called { id, others: parents });
+    let at = naming::locate(
+        parts,
+        &Called {
+            id,
+            others: parents,
+        },
+    );
     let used = parts.counts();
     if NAME_LIMIT - used.names < at.fresh {
         return Err(DagRefusal::NameRoom);
@@ -92,10 +98,16 @@ pub fn judge_insert(
         return Err(DagRefusal::DuplicateNullifier);
     }
     if MOST_PARENTS < count {
-        return Err(DagRefusal::TooManyParents { count, limit: MOST_PARENTS });
+        return Err(DagRefusal::TooManyParents {
+            count,
+            limit: MOST_PARENTS,
+        });
     }
     if count < FEWEST_PARENTS {
-        return Err(DagRefusal::TooFewParents { count, limit: FEWEST_PARENTS });
+        return Err(DagRefusal::TooFewParents {
+            count,
+            limit: FEWEST_PARENTS,
+        });
     }
     judge_room(parts, id, parents, 1)
 }

@@ -25,7 +25,14 @@ fn apply_insert(
     ensures left { left result (store_in parts.new) ≡ insert_tried (store_in parts.old) id.now nullifier.now parents.now }
     ensures same { SameSlices parts.old parts.new }
 {
-    naming::name_all(parts, &Called { id, others: parents }, at);
+    naming::name_all(
+        parts,
+        &Called {
+            id,
+            others: parents,
+        },
+        at,
+    );
     parts.unmark();
     let child = at.numbers[0];
     let names = &at.numbers[1..=parents.len()];

@@ -28,7 +28,14 @@ fn apply_genesis(
     ensures left { store_in parts.new ≡ genesis_done (store_in parts.old) id.now nullifier.now parents.now }
     ensures same { SameSlices parts.old parts.new }
 {
-    naming::name_all(parts, &Called { id, others: parents }, at);
+    naming::name_all(
+        parts,
+        &Called {
+            id,
+            others: parents,
+        },
+        at,
+    );
     parts.unmark();
     let child = at.numbers[0];
     let names = &at.numbers[1..=parents.len()];

@@ -1,7 +1,7 @@
-use Rattle.std.proofs.Common.{◌+◌, ◌∙◌, length, get_or, sym, ap, arith}
+use Rattle.std.proofs.Common.{◌∙◌, length, get_or, sym, ap, arith}
 use Rattle.store.specs.Tables.{Store, entries}
 use Rattle.store.specs.Parts.{store_in, same_then}
-use Rattle.dag.proofs.Entering.{entered_start, entered_stop, entered_more, entered_end, child_count, child_long}
+use Rattle.dag.proofs.Entering.{entered_stop, entered_more, entered_end, child_count, child_long}
 use Rattle.dag.proofs.enter.enter.Goals as goal
 
 pub returns-then-not-is_held-clause-left : goal.returns-then-not-is_held-clause-left

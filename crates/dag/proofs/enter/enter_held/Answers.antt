@@ -1,4 +1,4 @@
-use Rattle.std.proofs.Common.{◌≡◌, ◌+◌, ◌∙◌, length, get_or, ap, arith}
+use Rattle.std.proofs.Common.{◌≡◌, ◌∙◌, length, get_or, ap, arith}
 use Rattle.store.specs.Tables.{Store, entries}
 use Rattle.store.specs.Parts.{store_in, SameSlices, same_start, same_then}
 use Rattle.dag.specs.Rules.{entered_if}
@@ -15,7 +15,7 @@ loop-parent-preserved c =
     let p = get_or c.args.parents.now c.loop-parent.parent-index 0 in
     let entry : store_in c.if-is_held.parts ≡ entered_if t p c.args.child =
     elim c.if-is_held.branch [
-      then-is_held w ↦ ap store_in w.parts-is ∙ if_held t p c.args.child _ c.is_held.ensures _ w.if-is_held.true w.add_child.ensures.left
+      | then-is_held w ↦ ap store_in w.parts-is ∙ if_held t p c.args.child _ c.is_held.ensures _ w.if-is_held.true w.add_child.ensures.left
       | else-is_held w ↦ ap store_in w.parts-is ∙ if_unheld t p c.args.child _ c.is_held.ensures w.if-is_held.false
     ] in
     let same : SameSlices c.loop-parent.parts c.if-is_held.parts =

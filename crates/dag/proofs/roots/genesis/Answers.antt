@@ -1,0 +1,18 @@
+-- The verdict, and what is left where it is fine.
+use Rattle.store.specs.Parts.{store_in}
+use Rattle.dag.specs.Judging.{judged_err, judged_ok, genesis_fine}
+use Rattle.dag.proofs.Entering.{passed_on, genesis_refused, genesis_done_lem}
+use Rattle.dag.proofs.roots.genesis.Goals as goal
+
+pub returns-in_err-at-clause-left : goal.returns-in_err-at-clause-left
+returns-in_err-at-clause-left c =
+    let refused = judged_err _ _ _ _ _ c.judge_genesis.ensures _ c.in_err-at.was in
+    rw (passed_on _ _ c.from_residual.ensures.1) (genesis_refused (store_in c.args.parts.now) _ _ _ _ refused)
+
+pub apply_genesis-requires : goal.apply_genesis-requires
+apply_genesis-requires c =
+    (genesis_fine _ _ _ _ (judged_ok _ _ _ _ _ c.judge_genesis.ensures _ c.in_ok-at.was), c.judge_genesis.ensures.located _ c.in_ok-at.was)
+
+pub returns-clause-left : goal.returns-clause-left
+returns-clause-left c =
+    genesis_done_lem (store_in c.args.parts.now) _ _ _ _ (judged_ok _ _ _ _ _ c.judge_genesis.ensures _ c.in_ok-at.was) c.apply_genesis.ensures.left
