@@ -9,6 +9,7 @@ ghost use Rattle.dag.specs.Judging.{Judges};
 ghost use Rattle.dag.specs.Begun.{NullsRight};
 
 use crate::answers::DagRefusal;
+use crate::transaction::Transaction;
 use cells::Found;
 use naming::{Called, Located};
 use store::Parts;
@@ -49,27 +50,22 @@ fn places_wanted(parts: &Parts, z: &[u8; 32]) -> usize
 }
 
 // Checks 7, 8 and 9: room for names, child entries and nullifiers. The call's ids are located on the way.
-fn judge_room(
-    parts: &Parts,
-    id: &[u8; 32],
-    parents: &[[u8; 32]],
-    places: usize,
-) -> Result<Located, DagRefusal>
-    requires { Sound (store_in parts.now) × (length parents.now ≤ parent_limit) }
-    ensures { Judges (store_in parts.now) id.now parents.now (room_verdict (store_in parts.now) id.now parents.now places) result }
+fn judge_room(parts: &Parts, tx: &Transaction, places: usize) -> Result<Located, DagRefusal>
+    requires { Sound (store_in parts.now) × (length tx.now.parents.now ≤ parent_limit) }
+    ensures { Judges (store_in parts.now) tx.now.id.now tx.now.parents.now (room_verdict (store_in parts.now) tx.now.id.now tx.now.parents.now places) result }
 {
     let at = naming::locate(
         parts,
         &Called {
-            id,
-            others: parents,
+            id: tx.id,
+            others: tx.parents,
         },
     );
     let used = parts.counts();
     if NAME_LIMIT - used.names < at.fresh {
         return Err(DagRefusal::NameRoom);
     }
-    if CHILD_LIMIT - used.entries < parents.len() {
+    if CHILD_LIMIT - used.entries < tx.parents.len() {
         return Err(DagRefusal::ChildRoom);
     }
     if NULL_LIMIT - used.spent < places {
@@ -79,22 +75,17 @@ fn judge_room(
 }
 
 // Refusals 1, 2, 3, 4, 5, 7, 8 and 9 of the plain insert; else where the call's ids are.
-pub fn judge_insert(
-    parts: &Parts,
-    id: &[u8; 32],
-    nullifier: &[u8; 32],
-    parents: &[[u8; 32]],
-) -> Result<Located, DagRefusal>
-    ensures { Judges (store_in parts.now) id.now parents.now (insert_verdict (store_in parts.now) id.now nullifier.now parents.now) result }
+pub fn judge_insert(parts: &Parts, tx: &Transaction) -> Result<Located, DagRefusal>
+    ensures { Judges (store_in parts.now) tx.now.id.now tx.now.parents.now (insert_verdict (store_in parts.now) tx.now.id.now tx.now.nullifier.0 tx.now.parents.now) result }
 {
     if !parts.is_sound() {
         return Err(DagRefusal::StoreBad);
     }
-    let count = parents.len();
+    let count = tx.parents.len();
     if PARENT_LIMIT < count {
         return Err(DagRefusal::ListTooLong);
     }
-    if is_spent(parts, nullifier) {
+    if is_spent(parts, &tx.nullifier.0) {
         return Err(DagRefusal::DuplicateNullifier);
     }
     if MOST_PARENTS < count {
@@ -109,24 +100,19 @@ pub fn judge_insert(
             limit: FEWEST_PARENTS,
         });
     }
-    judge_room(parts, id, parents, 1)
+    judge_room(parts, tx, 1)
 }
 
 // Refusals 1, 2, 7, 8 and 9 of the genesis insert; else where the call's ids are.
-pub fn judge_genesis(
-    parts: &Parts,
-    id: &[u8; 32],
-    nullifier: &[u8; 32],
-    parents: &[[u8; 32]],
-) -> Result<Located, DagRefusal>
-    ensures { Judges (store_in parts.now) id.now parents.now (genesis_verdict (store_in parts.now) id.now nullifier.now parents.now) result }
+pub fn judge_genesis(parts: &Parts, tx: &Transaction) -> Result<Located, DagRefusal>
+    ensures { Judges (store_in parts.now) tx.now.id.now tx.now.parents.now (genesis_verdict (store_in parts.now) tx.now.id.now tx.now.nullifier.0 tx.now.parents.now) result }
 {
     if !parts.is_sound() {
         return Err(DagRefusal::StoreBad);
     }
-    if PARENT_LIMIT < parents.len() {
+    if PARENT_LIMIT < tx.parents.len() {
         return Err(DagRefusal::ListTooLong);
     }
-    let places = places_wanted(parts, nullifier);
-    judge_room(parts, id, parents, places)
+    let places = places_wanted(parts, &tx.nullifier.0);
+    judge_room(parts, tx, places)
 }

@@ -8,7 +8,9 @@ mod enter;
 mod judge;
 mod plain;
 mod roots;
+mod transaction;
 
 pub use emptying::empty;
 pub use plain::insert;
 pub use roots::genesis;
+pub use transaction::Transaction;

@@ -9,49 +9,38 @@ ghost use Rattle.dag.specs.Rules.{left, insert_tried, insert_of};
 use crate::answers::DagRefusal;
 use crate::enter::{enter, keep_new};
 use crate::judge::judge_insert;
-use ident::Nullifier;
+use crate::transaction::Transaction;
 use naming::{Called, Located};
 use store::Parts;
 
 // All that is left once the checks are passed: names, entries, and where every parent is held the nullifier and the record.
-fn apply_insert(
-    parts: &mut Parts,
-    id: &[u8; 32],
-    nullifier: &[u8; 32],
-    parents: &[[u8; 32]],
-    at: Located,
-) -> Result<(), DagRefusal>
-    requires { Room (store_in parts.old) id.now parents.now 1 × Locates (store_in parts.old) (called id.now parents.now) (suc (length parents.now)) at }
-    ensures left { left result (store_in parts.new) ≡ insert_tried (store_in parts.old) id.now nullifier.now parents.now }
+fn apply_insert(parts: &mut Parts, tx: &Transaction, at: Located) -> Result<(), DagRefusal>
+    requires { Room (store_in parts.old) tx.now.id.now tx.now.parents.now 1 × Locates (store_in parts.old) (called tx.now.id.now tx.now.parents.now) (suc (length tx.now.parents.now)) at }
+    ensures left { left result (store_in parts.new) ≡ insert_tried (store_in parts.old) tx.now.id.now tx.now.nullifier.0 tx.now.parents.now }
     ensures same { SameSlices parts.old parts.new }
 {
     naming::name_all(
         parts,
         &Called {
-            id,
-            others: parents,
+            id: tx.id,
+            others: tx.parents,
         },
         at,
     );
     parts.unmark();
     let child = at.numbers[0];
-    let names = &at.numbers[1..=parents.len()];
+    let names = &at.numbers[1..=tx.parents.len()];
     enter(parts, child, names).map_err(DagRefusal::MissingParent)?;
-    keep_new(parts, nullifier, child, names);
+    keep_new(parts, &tx.nullifier.0, child, names);
     Ok(())
 }
 
 // A record with 2 to 8 parents, all of them held. A parent that is not held refuses; the names and the entries of the
 // parents before it stay.
-pub fn insert(
-    parts: &mut Parts,
-    id: &[u8; 32],
-    nullifier: Nullifier,
-    parents: &[[u8; 32]],
-) -> Result<(), DagRefusal>
-    ensures left { left result (store_in parts.new) ≡ insert_of (store_in parts.old) id.now nullifier.0 parents.now }
+pub fn insert(parts: &mut Parts, tx: &Transaction) -> Result<(), DagRefusal>
+    ensures left { left result (store_in parts.new) ≡ insert_of (store_in parts.old) tx.now.id.now tx.now.nullifier.0 tx.now.parents.now }
     ensures same { SameSlices parts.old parts.new }
 {
-    let at = judge_insert(parts, id, &nullifier.0, parents)?;
-    apply_insert(parts, id, &nullifier.0, parents, at)
+    let at = judge_insert(parts, tx)?;
+    apply_insert(parts, tx, at)
 }

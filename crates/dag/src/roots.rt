@@ -10,53 +10,42 @@ ghost use Rattle.dag.specs.Rules.{left, places_wanted, genesis_done, genesis_of}
 use crate::answers::DagRefusal;
 use crate::enter::{enter_held, keep_new};
 use crate::judge::{judge_genesis, place_of};
+use crate::transaction::Transaction;
 use cells::Found;
-use ident::Nullifier;
 use naming::{Called, Located};
 use store::Parts;
 
 // All that is left once the checks are passed: names, entries for the parents that are held, the record, and its nullifier
 // unless that is there already.
-fn apply_genesis(
-    parts: &mut Parts,
-    id: &[u8; 32],
-    nullifier: &[u8; 32],
-    parents: &[[u8; 32]],
-    at: Located,
-)
-    requires { Room (store_in parts.old) id.now parents.now (places_wanted (place_of (store_in parts.old) nullifier.now)) × Locates (store_in parts.old) (called id.now parents.now) (suc (length parents.now)) at }
-    ensures left { store_in parts.new ≡ genesis_done (store_in parts.old) id.now nullifier.now parents.now }
+fn apply_genesis(parts: &mut Parts, tx: &Transaction, at: Located)
+    requires { Room (store_in parts.old) tx.now.id.now tx.now.parents.now (places_wanted (place_of (store_in parts.old) tx.now.nullifier.0)) × Locates (store_in parts.old) (called tx.now.id.now tx.now.parents.now) (suc (length tx.now.parents.now)) at }
+    ensures left { store_in parts.new ≡ genesis_done (store_in parts.old) tx.now.id.now tx.now.nullifier.0 tx.now.parents.now }
     ensures same { SameSlices parts.old parts.new }
 {
     naming::name_all(
         parts,
         &Called {
-            id,
-            others: parents,
+            id: tx.id,
+            others: tx.parents,
         },
         at,
     );
     parts.unmark();
     let child = at.numbers[0];
-    let names = &at.numbers[1..=parents.len()];
+    let names = &at.numbers[1..=tx.parents.len()];
     enter_held(parts, child, names);
-    match place_of(parts, nullifier) {
+    match place_of(parts, &tx.nullifier.0) {
         Found::At(place) => parts.keep_record(child as usize, place, names),
-        Found::Nothing => keep_new(parts, nullifier, child, names),
+        Found::Nothing => keep_new(parts, &tx.nullifier.0, child, names),
     }
 }
 
 // A record with 0 to 16 parents, held or not; its nullifier may be there already.
-pub fn genesis(
-    parts: &mut Parts,
-    id: &[u8; 32],
-    nullifier: Nullifier,
-    parents: &[[u8; 32]],
-) -> Result<(), DagRefusal>
-    ensures left { left result (store_in parts.new) ≡ genesis_of (store_in parts.old) id.now nullifier.0 parents.now }
+pub fn genesis(parts: &mut Parts, tx: &Transaction) -> Result<(), DagRefusal>
+    ensures left { left result (store_in parts.new) ≡ genesis_of (store_in parts.old) tx.now.id.now tx.now.nullifier.0 tx.now.parents.now }
     ensures same { SameSlices parts.old parts.new }
 {
-    let at = judge_genesis(parts, id, &nullifier.0, parents)?;
-    apply_genesis(parts, id, &nullifier.0, parents, at);
+    let at = judge_genesis(parts, tx)?;
+    apply_genesis(parts, tx, at);
     Ok(())
 }

@@ -9,18 +9,18 @@ use Rattle.dag.proofs.judge.judge_genesis.Goals as goal
 pub returns-then-not-is_sound : goal.returns-then-not-is_sound
 returns-then-not-is_sound c = judges_refused _ _ _ _ _ (genesis_bad (store_in c.args.parts.now) _ _ _ _ c.is_sound.ensures c.if-not-is_sound.true)
 
-pub returns-then-parents-gt-PARENT_LIMIT : goal.returns-then-parents-gt-PARENT_LIMIT
-returns-then-parents-gt-PARENT_LIMIT c =
-    judges_refused _ _ _ _ _ (genesis_long (store_in c.args.parts.now) _ _ _ _ c.is_sound.ensures c.if-not-is_sound.false c.if-parents-gt-PARENT_LIMIT.true)
+pub returns-then-tx-gt-PARENT_LIMIT : goal.returns-then-tx-gt-PARENT_LIMIT
+returns-then-tx-gt-PARENT_LIMIT c =
+    judges_refused _ _ _ _ _ (genesis_long (store_in c.args.parts.now) _ _ _ _ c.is_sound.ensures c.if-not-is_sound.false c.if-tx-gt-PARENT_LIMIT.true)
 
 pub places_wanted-places-requires : goal.places_wanted-places-requires
 places_wanted-places-requires c = null_parts (store_in c.args.parts.now) (sound_known _ (sym c.is_sound.ensures ∙ c.if-not-is_sound.false))
 
 pub judge_room-requires : goal.judge_room-requires
-judge_room-requires c = (sound_known _ (sym c.is_sound.ensures ∙ c.if-not-is_sound.false), c.if-parents-gt-PARENT_LIMIT.false)
+judge_room-requires c = (sound_known _ (sym c.is_sound.ensures ∙ c.if-not-is_sound.false), c.if-tx-gt-PARENT_LIMIT.false)
 
 pub returns : goal.returns
 returns c =
     judges_same _ _ _ _ _ _
-    (genesis_room (store_in c.args.parts.now) c.args.id.now _ c.args.parents.now _ c.is_sound.ensures c.if-not-is_sound.false c.if-parents-gt-PARENT_LIMIT.false _ c.places_wanted-places.ensures)
+    (genesis_room (store_in c.args.parts.now) c.args.tx.now.id.now _ c.args.tx.now.parents.now _ c.is_sound.ensures c.if-not-is_sound.false c.if-tx-gt-PARENT_LIMIT.false _ c.places_wanted-places.ensures)
     c.judge_room.ensures

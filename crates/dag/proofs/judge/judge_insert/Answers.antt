@@ -37,5 +37,5 @@ judge_room-requires c = (sound_known _ (sym c.is_sound.ensures ∙ c.if-not-is_s
 pub returns : goal.returns
 returns c =
     judges_same _ _ _ _ _ _
-    (insert_room (store_in c.args.parts.now) c.args.id.now _ c.args.parents.now _ c.is_sound.ensures c.if-not-is_sound.false c.if-count-gt-PARENT_LIMIT.false _ c.is_spent.ensures c.if-is_spent.false c.if-count-gt-MOST_PARENTS.false c.if-count-lt-FEWEST_PARENTS.false)
+    (insert_room (store_in c.args.parts.now) c.args.tx.now.id.now _ c.args.tx.now.parents.now _ c.is_sound.ensures c.if-not-is_sound.false c.if-count-gt-PARENT_LIMIT.false _ c.is_spent.ensures c.if-is_spent.false c.if-count-gt-MOST_PARENTS.false c.if-count-lt-FEWEST_PARENTS.false)
     c.judge_room.ensures

@@ -11,16 +11,16 @@ locate-at-requires c = (name_parts (store_in c.args.parts.now) c.requires.0, ome
 pub returns-then-used-at : goal.returns-then-used-at
 returns-then-used-at c = judges_refused _ _ _ _ _ (room_names (store_in c.args.parts.now) _ _ _ _ c.counts-used.ensures _ c.locate-at.ensures.fresh c.if-used-at.true)
 
-pub returns-then-used-parents : goal.returns-then-used-parents
-returns-then-used-parents c =
-    judges_refused _ _ _ _ _ (room_children (store_in c.args.parts.now) _ _ _ _ c.counts-used.ensures _ c.locate-at.ensures.fresh c.if-used-at.false c.if-used-parents.true)
+pub returns-then-used-tx : goal.returns-then-used-tx
+returns-then-used-tx c =
+    judges_refused _ _ _ _ _ (room_children (store_in c.args.parts.now) _ _ _ _ c.counts-used.ensures _ c.locate-at.ensures.fresh c.if-used-at.false c.if-used-tx.true)
 
 pub returns-then-used-places : goal.returns-then-used-places
 returns-then-used-places c =
-    judges_refused _ _ _ _ _ (room_nulls (store_in c.args.parts.now) _ _ _ _ c.counts-used.ensures _ c.locate-at.ensures.fresh c.if-used-at.false c.if-used-parents.false c.if-used-places.true)
+    judges_refused _ _ _ _ _ (room_nulls (store_in c.args.parts.now) _ _ _ _ c.counts-used.ensures _ c.locate-at.ensures.fresh c.if-used-at.false c.if-used-tx.false c.if-used-places.true)
 
 pub returns : goal.returns
 returns c =
     judges_fine _ _ _ _ _
-    (room_fine (store_in c.args.parts.now) _ _ _ _ c.counts-used.ensures _ c.locate-at.ensures.fresh c.if-used-at.false c.if-used-parents.false c.if-used-places.false)
+    (room_fine (store_in c.args.parts.now) _ _ _ _ c.counts-used.ensures _ c.locate-at.ensures.fresh c.if-used-at.false c.if-used-tx.false c.if-used-places.false)
     c.locate-at.ensures
