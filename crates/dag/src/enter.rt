@@ -1,11 +1,28 @@
-// The steps of an insert that was not refused: entries for the parents, then the nullifier and the record. They have the
-// record's own name, child, and those of its parents.
-ghost use Rattle.std.specs.Prelude.{◌≡◌, length, get_or};
+// The steps of an insert that was not refused: names, then entries for the parents, then the nullifier and the record. Those
+// after the first have the record's own name, child, and those of its parents.
+ghost use Rattle.std.specs.Prelude.{◌≡◌, ◌+◌, ◌≤◌, suc, length, get_or};
+ghost use Rattle.store.specs.Limits.{name_limit, parent_limit};
+ghost use Rattle.store.specs.Tables.{names};
+ghost use Rattle.store.specs.Facts.{Sound};
 ghost use Rattle.store.specs.Parts.{store_in, SameSlices};
-ghost use Rattle.dag.specs.Rules.{walked, entered, held_entered, kept_new};
+ghost use Rattle.naming.specs.Naming.{called};
+ghost use Rattle.naming.specs.Located.{Locates};
+ghost use Rattle.dag.specs.Rules.{begun, walked, entered, held_entered, kept_new};
 ghost use Rattle.dag.specs.Begun.{Enterable, Keepable};
 
+use crate::transaction::Transaction;
+use naming::Located;
 use store::Parts;
+
+// The ids named, and the mark cleared.
+pub fn begin(parts: &mut Parts, tx: &Transaction, at: Located)
+    requires { (Sound (store_in parts.old) × (length tx.now.parents.now ≤ parent_limit)) × (Locates (store_in parts.old) (called tx.now.id.now tx.now.parents.now) (suc (length tx.now.parents.now)) at × (names (store_in parts.old) + at.fresh ≤ name_limit)) }
+    ensures left { store_in parts.new ≡ begun (store_in parts.old) tx.now.id.now tx.now.parents.now }
+    ensures same { SameSlices parts.old parts.new }
+{
+    naming::name_all(parts, &tx.ids(), at);
+    parts.unmark();
+}
 
 // The parents in order: each held one gets the child entry, and the first unheld one stops, with its place.
 pub fn enter(parts: &mut Parts, child: u16, parents: &[u16]) -> Result<(), usize>

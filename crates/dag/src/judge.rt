@@ -11,7 +11,7 @@ ghost use Rattle.dag.specs.Begun.{NullsRight};
 use crate::answers::DagRefusal;
 use crate::transaction::Transaction;
 use cells::Found;
-use naming::{Called, Located};
+use naming::Located;
 use store::Parts;
 use store::limits::*;
 
@@ -54,13 +54,7 @@ fn judge_room(parts: &Parts, tx: &Transaction, places: usize) -> Result<Located,
     requires { Sound (store_in parts.now) × (length tx.now.parents.now ≤ parent_limit) }
     ensures { Judges (store_in parts.now) tx.now.id.now tx.now.parents.now (room_verdict (store_in parts.now) tx.now.id.now tx.now.parents.now places) result }
 {
-    let at = naming::locate(
-        parts,
-        &Called {
-            id: tx.id,
-            others: tx.parents,
-        },
-    );
+    let at = naming::locate(parts, &tx.ids());
     let used = parts.counts();
     if NAME_LIMIT - used.names < at.fresh {
         return Err(DagRefusal::NameRoom);

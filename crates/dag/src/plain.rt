@@ -7,10 +7,10 @@ ghost use Rattle.dag.specs.Judging.{Room};
 ghost use Rattle.dag.specs.Rules.{left, insert_tried, insert_of};
 
 use crate::answers::DagRefusal;
-use crate::enter::{enter, keep_new};
+use crate::enter::{begin, enter, keep_new};
 use crate::judge::judge_insert;
 use crate::transaction::Transaction;
-use naming::{Called, Located};
+use naming::Located;
 use store::Parts;
 
 // All that is left once the checks are passed: names, entries, and where every parent is held the nullifier and the record.
@@ -19,15 +19,7 @@ fn apply_insert(parts: &mut Parts, tx: &Transaction, at: Located) -> Result<(), 
     ensures left { left result (store_in parts.new) ≡ insert_tried (store_in parts.old) tx.now.id.now tx.now.nullifier.0 tx.now.parents.now }
     ensures same { SameSlices parts.old parts.new }
 {
-    naming::name_all(
-        parts,
-        &Called {
-            id: tx.id,
-            others: tx.parents,
-        },
-        at,
-    );
-    parts.unmark();
+    begin(parts, tx, at);
     let child = at.numbers[0];
     let names = &at.numbers[1..=tx.parents.len()];
     enter(parts, child, names).map_err(DagRefusal::MissingParent)?;

@@ -8,11 +8,11 @@ ghost use Rattle.dag.specs.Judging.{Room};
 ghost use Rattle.dag.specs.Rules.{left, places_wanted, genesis_done, genesis_of};
 
 use crate::answers::DagRefusal;
-use crate::enter::{enter_held, keep_new};
+use crate::enter::{begin, enter_held, keep_new};
 use crate::judge::{judge_genesis, place_of};
 use crate::transaction::Transaction;
 use cells::Found;
-use naming::{Called, Located};
+use naming::Located;
 use store::Parts;
 
 // All that is left once the checks are passed: names, entries for the parents that are held, the record, and its nullifier
@@ -22,15 +22,7 @@ fn apply_genesis(parts: &mut Parts, tx: &Transaction, at: Located)
     ensures left { store_in parts.new ≡ genesis_done (store_in parts.old) tx.now.id.now tx.now.nullifier.0 tx.now.parents.now }
     ensures same { SameSlices parts.old parts.new }
 {
-    naming::name_all(
-        parts,
-        &Called {
-            id: tx.id,
-            others: tx.parents,
-        },
-        at,
-    );
-    parts.unmark();
+    begin(parts, tx, at);
     let child = at.numbers[0];
     let names = &at.numbers[1..=tx.parents.len()];
     enter_held(parts, child, names);

@@ -1,20 +1,18 @@
 -- The steps follow the rule one by one: the ids named, the mark cleared, the parents entered; then by how far those came.
-use Rattle.std.proofs.Common.{◌≡◌, length, rules, ap, ◌∙◌, arith}
-use Rattle.store.specs.Tables.{unmarked}
+use Rattle.std.proofs.Common.{◌≡◌, length, rules, arith}
 use Rattle.store.specs.Parts.{store_in}
-use Rattle.dag.specs.Begun.{name_parts}
 use Rattle.dag.proofs.Begun.{enterable, insert_keepable}
 use Rattle.dag.proofs.Entering.{IsMissing, names_located, passed_on, missing_at, none_missing, tried_stopped, tried_passed}
 use Rattle.dag.proofs.plain.apply_insert.Goals as goal
 
-pub name_all-requires : goal.name_all-requires
-name_all-requires c = (name_parts _ c.requires.0.sound, (omega (arith, c.requires.0.short), (c.requires.1, omega (arith, c.requires.1.fresh, c.requires.0.name_room))))
+pub begin-requires : goal.begin-requires
+begin-requires c = ((c.requires.0.sound, c.requires.0.short), (c.requires.1, omega (arith, c.requires.1.fresh, c.requires.0.name_room)))
 
 pub enter-requires : goal.enter-requires
 enter-requires c =
     let long : length c.args.at.numbers ≡ 17 = search rules in
     let names = names_located (store_in c.args.parts.now) c.args.tx.now.id.now c.args.tx.now.parents.now c.args.at long c.requires.0.short c.requires.1 in
-    enterable _ _ _ 1 c.requires.0 _ _ names _ (c.unmark.ensures.left ∙ ap unmarked c.name_all.ensures.left)
+    enterable _ _ _ 1 c.requires.0 _ _ names _ c.begin.ensures.left
 
 pub returns-in_err-map_err-clause-left : goal.returns-in_err-map_err-clause-left
 returns-in_err-map_err-clause-left c =
@@ -23,13 +21,13 @@ returns-in_err-map_err-clause-left c =
     let missing : IsMissing c.enter.result c.map_err.result = c.map_err.ensures.cases in
     let m = missing_at c.enter.result c.map_err.result _ missing c.in_err-map_err.was in
     rw (passed_on _ _ c.from_residual.ensures.1, m.2)
-    (tried_stopped _ _ c.args.tx.now.nullifier.0 _ _ _ _ (c.unmark.ensures.left ∙ ap unmarked c.name_all.ensures.left) names c.enter.result _ m.0 m.1 c.enter.ensures.left)
+    (tried_stopped _ _ c.args.tx.now.nullifier.0 _ _ _ _ c.begin.ensures.left names c.enter.result _ m.0 m.1 c.enter.ensures.left)
 
 pub keep_new-requires : goal.keep_new-requires
 keep_new-requires c =
     let long : length c.args.at.numbers ≡ 17 = search rules in
     let names = names_located (store_in c.args.parts.now) c.args.tx.now.id.now c.args.tx.now.parents.now c.args.at long c.requires.0.short c.requires.1 in
-    insert_keepable _ _ _ 1 c.requires.0 _ _ names _ (c.unmark.ensures.left ∙ ap unmarked c.name_all.ensures.left) _ _ c.enter.ensures.left (omega (arith, c.requires.0.null_room))
+    insert_keepable _ _ _ 1 c.requires.0 _ _ names _ c.begin.ensures.left _ _ c.enter.ensures.left (omega (arith, c.requires.0.null_room))
 
 pub returns-clause-left : goal.returns-clause-left
 returns-clause-left c =
@@ -37,4 +35,4 @@ returns-clause-left c =
     let names = names_located (store_in c.args.parts.now) c.args.tx.now.id.now c.args.tx.now.parents.now c.args.at long c.requires.0.short c.requires.1 in
     let missing : IsMissing c.enter.result c.map_err.result = c.map_err.ensures.cases in
     let passed = none_missing c.enter.result c.map_err.result _ missing c.in_ok-map_err.was in
-    tried_passed _ _ c.args.tx.now.nullifier.0 _ _ _ _ (c.unmark.ensures.left ∙ ap unmarked c.name_all.ensures.left) names c.enter.result _ _ passed c.enter.ensures.left c.keep_new.ensures.left
+    tried_passed _ _ c.args.tx.now.nullifier.0 _ _ _ _ c.begin.ensures.left names c.enter.result _ _ passed c.enter.ensures.left c.keep_new.ensures.left

@@ -1,48 +1,46 @@
 -- The steps follow the rule one by one: the ids named, the mark cleared, the held parents entered; then by whether the nullifier is
 -- there.
-use Rattle.std.proofs.Common.{◌≡◌, refl, length, rules, ap, ◌∙◌, arith}
-use Rattle.store.specs.Tables.{unmarked}
+use Rattle.std.proofs.Common.{◌≡◌, refl, length, rules, arith}
 use Rattle.store.specs.Parts.{store_in}
-use Rattle.dag.specs.Begun.{name_parts}
 use Rattle.dag.proofs.Begun.{enterable, genesis_parts, genesis_record, genesis_keepable}
 use Rattle.dag.proofs.Entering.{names_located, genesis_known, genesis_new}
 use Rattle.dag.proofs.roots.apply_genesis.Goals as goal
 
-pub name_all-requires : goal.name_all-requires
-name_all-requires c = (name_parts _ c.requires.0.sound, (omega (arith, c.requires.0.short), (c.requires.1, omega (arith, c.requires.1.fresh, c.requires.0.name_room))))
+pub begin-requires : goal.begin-requires
+begin-requires c = ((c.requires.0.sound, c.requires.0.short), (c.requires.1, omega (arith, c.requires.1.fresh, c.requires.0.name_room)))
 
 pub enter_held-requires : goal.enter_held-requires
 enter_held-requires c =
     let long : length c.args.at.numbers ≡ 17 = search rules in
     let names = names_located (store_in c.args.parts.now) c.args.tx.now.id.now c.args.tx.now.parents.now c.args.at long c.requires.0.short c.requires.1 in
-    enterable _ _ _ _ c.requires.0 _ _ names _ (c.unmark.ensures.left ∙ ap unmarked c.name_all.ensures.left)
+    enterable _ _ _ _ c.requires.0 _ _ names _ c.begin.ensures.left
 
 pub place_of-requires : goal.place_of-requires
 place_of-requires c =
     let long : length c.args.at.numbers ≡ 17 = search rules in
     let names = names_located (store_in c.args.parts.now) c.args.tx.now.id.now c.args.tx.now.parents.now c.args.at long c.requires.0.short c.requires.1 in
-    genesis_parts _ _ _ _ c.requires.0 _ _ names _ (c.unmark.ensures.left ∙ ap unmarked c.name_all.ensures.left) _ c.enter_held.ensures.left
+    genesis_parts _ _ _ _ c.requires.0 _ _ names _ c.begin.ensures.left _ c.enter_held.ensures.left
 
 pub keep_record-requires : goal.keep_record-requires
 keep_record-requires c =
     let long : length c.args.at.numbers ≡ 17 = search rules in
     let names = names_located (store_in c.args.parts.now) c.args.tx.now.id.now c.args.tx.now.parents.now c.args.at long c.requires.0.short c.requires.1 in
-    genesis_record _ _ _ _ c.requires.0 _ _ names _ (c.unmark.ensures.left ∙ ap unmarked c.name_all.ensures.left) _ c.enter_held.ensures.left c.args.tx.now.nullifier.0 _ _ c.place_of.ensures c.in-At.is
+    genesis_record _ _ _ _ c.requires.0 _ _ names _ c.begin.ensures.left _ c.enter_held.ensures.left c.args.tx.now.nullifier.0 _ _ c.place_of.ensures c.in-At.is
 
 pub keep_new-requires : goal.keep_new-requires
 keep_new-requires c =
     let long : length c.args.at.numbers ≡ 17 = search rules in
     let names = names_located (store_in c.args.parts.now) c.args.tx.now.id.now c.args.tx.now.parents.now c.args.at long c.requires.0.short c.requires.1 in
-    genesis_keepable _ _ _ _ c.requires.0 _ _ names _ (c.unmark.ensures.left ∙ ap unmarked c.name_all.ensures.left) _ c.enter_held.ensures.left c.args.tx.now.nullifier.0 _ refl c.place_of.ensures c.in-Nothing.is
+    genesis_keepable _ _ _ _ c.requires.0 _ _ names _ c.begin.ensures.left _ c.enter_held.ensures.left c.args.tx.now.nullifier.0 _ refl c.place_of.ensures c.in-Nothing.is
 
 pub returns-in-At-clause-left : goal.returns-in-At-clause-left
 returns-in-At-clause-left c =
     let long : length c.args.at.numbers ≡ 17 = search rules in
     let names = names_located (store_in c.args.parts.now) c.args.tx.now.id.now c.args.tx.now.parents.now c.args.at long c.requires.0.short c.requires.1 in
-    genesis_known _ _ c.args.tx.now.nullifier.0 _ _ _ _ (c.unmark.ensures.left ∙ ap unmarked c.name_all.ensures.left) names _ _ _ _ c.enter_held.ensures.left c.place_of.ensures c.in-At.is c.keep_record.ensures.left
+    genesis_known _ _ c.args.tx.now.nullifier.0 _ _ _ _ c.begin.ensures.left names _ _ _ _ c.enter_held.ensures.left c.place_of.ensures c.in-At.is c.keep_record.ensures.left
 
 pub returns-in-Nothing-clause-left : goal.returns-in-Nothing-clause-left
 returns-in-Nothing-clause-left c =
     let long : length c.args.at.numbers ≡ 17 = search rules in
     let names = names_located (store_in c.args.parts.now) c.args.tx.now.id.now c.args.tx.now.parents.now c.args.at long c.requires.0.short c.requires.1 in
-    genesis_new _ _ c.args.tx.now.nullifier.0 _ _ _ _ (c.unmark.ensures.left ∙ ap unmarked c.name_all.ensures.left) names _ _ _ c.enter_held.ensures.left c.place_of.ensures c.in-Nothing.is c.keep_new.ensures.left
+    genesis_new _ _ c.args.tx.now.nullifier.0 _ _ _ _ c.begin.ensures.left names _ _ _ c.enter_held.ensures.left c.place_of.ensures c.in-Nothing.is c.keep_new.ensures.left
