@@ -10,14 +10,12 @@ begin-requires c = ((c.requires.0.sound, c.requires.0.short), (c.requires.1, ome
 
 pub enter-requires : goal.enter-requires
 enter-requires c =
-    let long : length c.args.at.numbers ≡ 17 = search rules in
-    let names = names_located (store_in c.args.parts.now) c.args.tx.now.id.now c.args.tx.now.parents.now c.args.at long c.requires.0.short c.requires.1 in
+    let names = names_located (store_in c.args.parts.now) c.args.tx.now.id.now c.args.tx.now.parents.now c.args.at (search rules) c.requires.0.short c.requires.1 in
     enterable _ _ _ 1 c.requires.0 _ _ names _ c.begin.ensures.left
 
 pub returns-in_err-map_err-clause-left : goal.returns-in_err-map_err-clause-left
 returns-in_err-map_err-clause-left c =
-    let long : length c.args.at.numbers ≡ 17 = search rules in
-    let names = names_located (store_in c.args.parts.now) c.args.tx.now.id.now c.args.tx.now.parents.now c.args.at long c.requires.0.short c.requires.1 in
+    let names = names_located (store_in c.args.parts.now) c.args.tx.now.id.now c.args.tx.now.parents.now c.args.at (search rules) c.requires.0.short c.requires.1 in
     let missing : IsMissing c.enter.result c.map_err.result = c.map_err.ensures.cases in
     let m = missing_at c.enter.result c.map_err.result _ missing c.in_err-map_err.was in
     rw (passed_on _ _ c.from_residual.ensures.1, m.2)
@@ -25,14 +23,12 @@ returns-in_err-map_err-clause-left c =
 
 pub keep_new-requires : goal.keep_new-requires
 keep_new-requires c =
-    let long : length c.args.at.numbers ≡ 17 = search rules in
-    let names = names_located (store_in c.args.parts.now) c.args.tx.now.id.now c.args.tx.now.parents.now c.args.at long c.requires.0.short c.requires.1 in
+    let names = names_located (store_in c.args.parts.now) c.args.tx.now.id.now c.args.tx.now.parents.now c.args.at (search rules) c.requires.0.short c.requires.1 in
     insert_keepable _ _ _ 1 c.requires.0 _ _ names _ c.begin.ensures.left _ _ c.enter.ensures.left (omega (arith, c.requires.0.null_room))
 
 pub returns-clause-left : goal.returns-clause-left
 returns-clause-left c =
-    let long : length c.args.at.numbers ≡ 17 = search rules in
-    let names = names_located (store_in c.args.parts.now) c.args.tx.now.id.now c.args.tx.now.parents.now c.args.at long c.requires.0.short c.requires.1 in
+    let names = names_located (store_in c.args.parts.now) c.args.tx.now.id.now c.args.tx.now.parents.now c.args.at (search rules) c.requires.0.short c.requires.1 in
     let missing : IsMissing c.enter.result c.map_err.result = c.map_err.ensures.cases in
     let passed = none_missing c.enter.result c.map_err.result _ missing c.in_ok-map_err.was in
     tried_passed _ _ c.args.tx.now.nullifier.0 _ _ _ _ c.begin.ensures.left names c.enter.result _ _ passed c.enter.ensures.left c.keep_new.ensures.left

@@ -11,36 +11,30 @@ begin-requires c = ((c.requires.0.sound, c.requires.0.short), (c.requires.1, ome
 
 pub enter_held-requires : goal.enter_held-requires
 enter_held-requires c =
-    let long : length c.args.at.numbers ≡ 17 = search rules in
-    let names = names_located (store_in c.args.parts.now) c.args.tx.now.id.now c.args.tx.now.parents.now c.args.at long c.requires.0.short c.requires.1 in
+    let names = names_located (store_in c.args.parts.now) c.args.tx.now.id.now c.args.tx.now.parents.now c.args.at (search rules) c.requires.0.short c.requires.1 in
     enterable _ _ _ _ c.requires.0 _ _ names _ c.begin.ensures.left
 
 pub place_of-requires : goal.place_of-requires
 place_of-requires c =
-    let long : length c.args.at.numbers ≡ 17 = search rules in
-    let names = names_located (store_in c.args.parts.now) c.args.tx.now.id.now c.args.tx.now.parents.now c.args.at long c.requires.0.short c.requires.1 in
+    let names = names_located (store_in c.args.parts.now) c.args.tx.now.id.now c.args.tx.now.parents.now c.args.at (search rules) c.requires.0.short c.requires.1 in
     genesis_parts _ _ _ _ c.requires.0 _ _ names _ c.begin.ensures.left _ c.enter_held.ensures.left
 
 pub keep_record-requires : goal.keep_record-requires
 keep_record-requires c =
-    let long : length c.args.at.numbers ≡ 17 = search rules in
-    let names = names_located (store_in c.args.parts.now) c.args.tx.now.id.now c.args.tx.now.parents.now c.args.at long c.requires.0.short c.requires.1 in
+    let names = names_located (store_in c.args.parts.now) c.args.tx.now.id.now c.args.tx.now.parents.now c.args.at (search rules) c.requires.0.short c.requires.1 in
     genesis_record _ _ _ _ c.requires.0 _ _ names _ c.begin.ensures.left _ c.enter_held.ensures.left c.args.tx.now.nullifier.0 _ _ c.place_of.ensures c.in-At.is
 
 pub keep_new-requires : goal.keep_new-requires
 keep_new-requires c =
-    let long : length c.args.at.numbers ≡ 17 = search rules in
-    let names = names_located (store_in c.args.parts.now) c.args.tx.now.id.now c.args.tx.now.parents.now c.args.at long c.requires.0.short c.requires.1 in
+    let names = names_located (store_in c.args.parts.now) c.args.tx.now.id.now c.args.tx.now.parents.now c.args.at (search rules) c.requires.0.short c.requires.1 in
     genesis_keepable _ _ _ _ c.requires.0 _ _ names _ c.begin.ensures.left _ c.enter_held.ensures.left c.args.tx.now.nullifier.0 _ refl c.place_of.ensures c.in-Nothing.is
 
 pub returns-in-At-clause-left : goal.returns-in-At-clause-left
 returns-in-At-clause-left c =
-    let long : length c.args.at.numbers ≡ 17 = search rules in
-    let names = names_located (store_in c.args.parts.now) c.args.tx.now.id.now c.args.tx.now.parents.now c.args.at long c.requires.0.short c.requires.1 in
+    let names = names_located (store_in c.args.parts.now) c.args.tx.now.id.now c.args.tx.now.parents.now c.args.at (search rules) c.requires.0.short c.requires.1 in
     genesis_known _ _ c.args.tx.now.nullifier.0 _ _ _ _ c.begin.ensures.left names _ _ _ _ c.enter_held.ensures.left c.place_of.ensures c.in-At.is c.keep_record.ensures.left
 
 pub returns-in-Nothing-clause-left : goal.returns-in-Nothing-clause-left
 returns-in-Nothing-clause-left c =
-    let long : length c.args.at.numbers ≡ 17 = search rules in
-    let names = names_located (store_in c.args.parts.now) c.args.tx.now.id.now c.args.tx.now.parents.now c.args.at long c.requires.0.short c.requires.1 in
+    let names = names_located (store_in c.args.parts.now) c.args.tx.now.id.now c.args.tx.now.parents.now c.args.at (search rules) c.requires.0.short c.requires.1 in
     genesis_new _ _ c.args.tx.now.nullifier.0 _ _ _ _ c.begin.ensures.left names _ _ _ c.enter_held.ensures.left c.place_of.ensures c.in-Nothing.is c.keep_new.ensures.left
