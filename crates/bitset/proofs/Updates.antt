@@ -1,17 +1,9 @@
 -- How the code of `has`, `add`, `remove`, `clear`, `join` and `meet` goes with the definitions: a law for each way through it. Assumes nothing.
-use mathlib.Core.Path.{◌≡◌, refl, sym, ap, ap₂, ◌∙◌}
-use mathlib.Core.List.{List, [], ◌∷◌, ◌++◌, append-nil}
-use Prim.Native.Nat.{ℕ, zero, suc, ◌+◌, ◌-◌, ◌*◌, ◌/◌, ◌%◌, ◌^◌, ◌≤◌, ◌<◌, min}
-use native.Mathlib.Nat.{not-suc-le-zero, le_of_suc-le-suc}
-use native.Mathlib.Numerals.{add-one}
-use native.Mathlib.Omega.{arith}
-use borrow.Author.Fill.{fill_more}
-use lib.Bits.{bit_and, bit_or, and_mask, or_zero_r, and_zero_r}
-use lib.Dec.{eqb}
-use lib.ListN.{length, get_or, take, drop, set, replicate, drop_of_length-le, length-drop}
-use lib.Seq.{length-take-le, take_at, drop_at, take_all}
+use Rattle.std.proofs.Common.{◌≡◌, refl, sym, ap, ap₂, ◌∙◌, List, [], ◌∷◌, ◌++◌, append-nil, ℕ, zero, suc, ◌+◌, ◌-◌, ◌*◌, ◌/◌, ◌%◌, ◌^◌, ◌≤◌, ◌<◌, min, not-suc-le-zero, le_of_suc-le-suc, add-one, arith, bit_and, bit_or, eqb, length, get_or, take, drop, set, replicate, drop_of_length-le, length-drop, length-take-le, take_at, drop_at, take_all, Option, Some, None, Bool, false, MatchOption, option_map, unwrap_or, Bor}
+use Rattle.std.proofs.lemmas.Nat.{and_mask}
+use Rattle.std.specs.Int.Bits.{or_zero_r, and_zero_r}
 use Rattle.bitset.specs.Sets.{is_one, member, with_member, without, words_with, joined, met, cleared}
-use Rattle.bitset.specs.Bit.{shifted_mark}
+use Rattle.bitset.specs.Bit.{shifted_mark, zero_one}
 use Rattle.bitset.specs.Words.{length_words}
 
 -- ── One number ──
@@ -20,6 +12,13 @@ module _ (s : List ℕ) (n : ℕ) where
   pub has_is : eqb (bit_and (get_or s (n / 64) 0 / 2 ^ (n % 64)) 1) 1 ≡ member s n
   unfolding member is_one
   has_is = ap (λ (x : ℕ). eqb x 1) (and_mask (get_or s (n / 64) 0 / 2 ^ (n % 64)) 1)
+
+  -- r is what `get` gives, and past the end the word counts as 0
+  pub has_get : (r : Option (Bor ℕ)) (b : Bool) → ((d : ℕ) → unwrap_or (option_map (λ x. x.now) r) d ≡ get_or s (n / 64) d)
+      → MatchOption r (b ≡ false) (λ x. b ≡ eqb (bit_and (x.now / 2 ^ (n % 64)) 1) 1) → b ≡ member s n
+  unfolding member
+  has_get None b w e = e ∙ sym (ap (λ (x : ℕ). is_one x (n % 64)) (sym (w 0)) ∙ zero_one (n % 64))
+  has_get (Some x) b w e = e ∙ ap (λ (y : ℕ). eqb (bit_and (y / 2 ^ (n % 64)) 1) 1) (w 0) ∙ has_is
 
   mark : 1 * 2 ^ (n % 64) % 2 ^ 64 ≡ 2 ^ (n % 64)
   mark = shifted_mark (n % 64) (omega arith)
@@ -33,14 +32,6 @@ module _ (s : List ℕ) (n : ℕ) where
   remove_is = ap (λ (x : ℕ). set s (n / 64) (bit_and (get_or s (n / 64) 0) ((2 ^ 64 - 1) - x))) mark
 
 -- ── All words: the first i of d are done ──
-
-pub fill_next : (d l : List ℕ) (i : ℕ) → l ≡ replicate i 0 ++ drop i d → i < length d → set l i 0 ≡ replicate (i + 1) 0 ++ drop (i + 1) d
-fill_next d l i e h = ap (λ (k : List ℕ). set k i 0) e ∙ fill_more i 0 d h
-
-pub filled : (d : List ℕ) (i : ℕ) → i ≤ length d → length d ≤ i → replicate i 0 ++ drop i d ≡ cleared d
-filled d i a b =
-    let e : i ≡ length d = omega arith in
-    ap₂ (λ (k : ℕ) (l : List ℕ). replicate k 0 ++ l) e (drop_of_length-le d b) ∙ append-nil (cleared d)
 
 module _ (f : ℕ → ℕ → ℕ) where
   abbrev pub done : List ℕ → List ℕ → ℕ → List ℕ
@@ -79,7 +70,7 @@ pub join_end : (d o l : List ℕ) (i n : ℕ) → n ≡ min (length d) (length o
 join_end d o l i n e h g =
     h ∙ ap (done bit_or d o) g ∙ ap (λ (k : List ℕ). take n (joined d o) ++ k) (sym (or_none (drop n d))) ∙ rest bit_or d o n e
 
--- y is what clearing leaves of the words from n on
+-- y is what zeros leave of the words from n on
 pub meet_end : (d o l y : List ℕ) (i n : ℕ) → n ≡ min (length d) (length o) → l ≡ done bit_and d o i
     → y ≡ cleared (take (length l - n) (drop n l)) → i ≡ n → take n l ++ (y ++ drop (length l - n) (drop n l)) ≡ met d o
 meet_end d o l y i n e h z g =

@@ -1,14 +1,7 @@
 -- How the code of `next` and `list` goes with the definitions. Assumes nothing.
-use mathlib.Core.Path.{◌≡◌, refl, sym, ap, ap₂, ◌∙◌, subst}
-use mathlib.Core.Bool.{Bool, true}
-use mathlib.Core.List.{List, [], ◌∷◌, ◌++◌}
-use Prim.Native.Nat.{ℕ, ◌+◌, ◌-◌, ◌*◌, ◌/◌, ◌^◌, ◌≤◌, ◌<◌, min}
-use native.Mathlib.Nat.{lt_of_le_of_lt}
-use native.Mathlib.Numerals.{add-one}
-use native.Mathlib.Omega.{arith}
-use lib.Count.{count_trailing_zeros}
-use lib.ListN.{length, get_or, set, length-append, length-set}
-use lib.Pow.{shr_le}
+use Rattle.std.proofs.Common.{◌≡◌, refl, sym, ap, ap₂, ◌∙◌, subst, Bool, true, List, [], ◌∷◌, ◌++◌, ℕ, ◌+◌, ◌-◌, ◌*◌, ◌/◌, ◌^◌, ◌≤◌, ◌<◌, min, lt_of_le_of_lt, add-one, arith, length, get_or, set, length-append, length-set}
+use Rattle.std.proofs.lemmas.Nat.{shr_le}
+use Rattle.std.specs.Int.Count.{count_trailing_zeros}
 use Rattle.bitset.specs.Sets.{is_one, member, members, next_from, placed}
 use Rattle.bitset.specs.Bit.{shifted_one, zero_one, below_lowest, lowest_one, lowest_from}
 use Rattle.bitset.specs.Counts.{None, none_add}
@@ -86,39 +79,28 @@ listing_start p end n out e =
     }
 
 module _ (p : ℕ → Bool) (end n put : ℕ) (out₀ out : List ℕ) (l : Listing p end out₀ out n put) where
-  pub listing_next : (m : ℕ) → m ≡ next_from p (n + 1) (end - (n + 1)) → n < end → (put ≡ length out → ⊥)
-      → Listing p end out₀ (set out put n) m (put + 1) × (n < m)
+  pub listing_next : (m : ℕ) → m ≡ next_from p (n + 1) (end - (n + 1)) → n < end → put < length out
+      → Listing p end out₀ (set out put n) m (put + 1)
   listing_next m e h free =
       let next = next_has p (n + 1) end (omega arith) in
       let a = next.start in
       let one : members p m ≡ members p n ++ (n ∷ []) =
       ap (members p) e ∙ members_more p (n + 1) (next_from p (n + 1) (end - (n + 1))) a next.none
-      ∙ ap (members p) (add-one n) ∙ members_one p n (l.here h) in (
-        record {
-          stop = rw e next.stop;
-          here = λ g. ap p e ∙ next.here (rw (sym e) g);
-          many = ap (λ (k : ℕ). k + 1) l.many ∙ sym (length-append (members p n) (n ∷ [])) ∙ ap length (sym one);
-          room = omega arith;
-          same = length-set out put n ∙ l.same;
-          all =
-              ap₂ (λ (r : List ℕ) (k : ℕ). set r k n) l.all l.many ∙ placed_one (members p n) out₀ n (omega arith)
-              ∙ ap (λ (r : List ℕ). placed r out₀) (sym one);
-        },
-        omega arith,
-      )
+      ∙ ap (members p) (add-one n) ∙ members_one p n (l.here h) in
+      record {
+        stop = rw e next.stop;
+        here = λ g. ap p e ∙ next.here (rw (sym e) g);
+        many = ap (λ (k : ℕ). k + 1) l.many ∙ sym (length-append (members p n) (n ∷ [])) ∙ ap length (sym one);
+        room = omega arith;
+        same = length-set out put n ∙ l.same;
+        all =
+            ap₂ (λ (r : List ℕ) (k : ℕ). set r k n) l.all l.many ∙ placed_one (members p n) out₀ n (omega arith)
+            ∙ ap (λ (r : List ℕ). placed r out₀) (sym one);
+      }
 
-  -- what is there at the end, or once out is full
-  abbrev Put : ℕ → Type 0
-  Put m = (put ≡ min (length (members p m)) (length out₀)) × (out ≡ placed (members p m) out₀)
-
-  pub listing_full : (m : ℕ) → end ≡ m → put ≡ length out → Put m
+  -- what is there once out is full
+  pub listing_full : (m : ℕ) → end ≡ m → put ≡ length out → (put ≡ min (length (members p m)) (length out₀)) × (out ≡ placed (members p m) out₀)
   listing_full m e f =
       let b = members_begin p n m (omega arith) in
       let more : length (members p m) ≡ length (members p n) + length b.0 = ap length b.1 ∙ length-append (members p n) b.0 in
       (omega arith, l.all ∙ sym (ap (λ (r : List ℕ). placed r out₀) b.1 ∙ placed_full (members p n) b.0 out₀ (omega arith)))
-
-  pub listing_end : (m : ℕ) → end ≡ m → end ≤ n → Put m
-  listing_end m e h =
-      let g : n ≡ m = omega arith in
-      let many : put ≡ length (members p m) = l.many ∙ ap (λ (k : ℕ). length (members p k)) g in
-      (omega arith, l.all ∙ ap (λ (k : ℕ). placed (members p k) out₀) g)

@@ -1,5 +1,5 @@
 -- Sets of numbers as words of bits.
-use Rattle.std.specs.Prelude.{ℕ, zero, suc, ◌+◌, ◌-◌, ◌/◌, ◌%◌, ◌^◌, min, Bool, cond, ◌&&◌, ◌||◌, List, [], ◌∷◌, ◌++◌, length, get_or, set, take, drop, replicate, eqb}
+use Rattle.std.specs.Prelude.{◌≡◌, ℕ, zero, suc, ◌+◌, ◌-◌, ◌*◌, ◌<◌, ◌/◌, ◌%◌, ◌^◌, min, Bool, cond, ◌&&◌, ◌||◌, List, [], ◌∷◌, ◌++◌, length, get_or, set, take, drop, replicate, eqb}
 use Rattle.std.specs.Int.Bits.{bit_or, bit_and}
 
 -- ── Members ──
@@ -11,6 +11,10 @@ is_one x i = eqb (x / 2 ^ i % 2) 1
 -- n is a member where bit n % 64 of word n / 64 is one. Past the end there is no member.
 unfoldable pub member : List ℕ → ℕ → Bool
 member s n = is_one (get_or s (n / 64) 0) (n % 64)
+
+-- The bits of x tell which of the 64 numbers from i * 64 on have p.
+abbrev pub IsWord : (ℕ → Bool) → ℕ → ℕ → Type 0
+IsWord p i x = (j : ℕ) → j < 64 → p (i * 64 + j) ≡ is_one x j
 
 -- n is a member of both, of either.
 abbrev pub in_both : List ℕ → List ℕ → ℕ → Bool

@@ -16,7 +16,7 @@ use Rattle.std.proofs.lemmas.List.{length-replicate, get_or-replicate}
 use Rattle.std.proofs.Math.Pow.{pow-lt}
 use Rattle.std.proofs.Math.Seq.{set_out}
 use Rattle.bitset.specs.Cases.{lt_or_le, false_or_true}
-use Rattle.bitset.specs.Sets.{is_one, member, in_both, in_either, with_member, without, words_with, joined, met, cleared, count_below, numbers, words}
+use Rattle.bitset.specs.Sets.{is_one, member, IsWord, in_both, in_either, with_member, without, words_with, joined, met, cleared, count_below, numbers, words}
 use Rattle.bitset.specs.Bit.{or_one, and_one, not_one, zero_one, pow_one}
 use Rattle.bitset.specs.Counts.{None, count_same, count_add, count_more, count_new, count_mono}
 
@@ -191,8 +191,7 @@ both_le_either s o m = count_mono (in_both s o) (in_either s o) m (λ n l. by (m
 -- ── Counted word by word ──
 
 -- where the numbers from i * 64 on go by the bits of x, they add the ones of x
-count_word : (p : ℕ → Bool) (i x : ℕ) → ((j : ℕ) → j < 64 → p (i * 64 + j) ≡ is_one x j)
-    → count_below p ((i + 1) * 64) ≡ count_below p (i * 64) + count_below (is_one x) 64
+pub count_word : (p : ℕ → Bool) (i x : ℕ) → IsWord p i x → count_below p ((i + 1) * 64) ≡ count_below p (i * 64) + count_below (is_one x) 64
 count_word p i x bits =
     let e : (i + 1) * 64 ≡ i * 64 + 64 = omega arith in
     ap (count_below p) e ∙ count_add p (i * 64) 64
@@ -202,12 +201,14 @@ pub word_members : (s : List ℕ) (i : ℕ) → count_below (member s) ((i + 1) 
 word_members s i = count_word (member s) i (get_or s i 0) (member_at s i)
 
 module _ (a b : List ℕ) (i : ℕ) where
+  pub both_at : IsWord (in_both a b) i (bit_and (get_or a i 0) (get_or b i 0))
+  both_at j h = ap₂ (λ (x y : Bool). x && y) (member_at a i j h) (member_at b i j h) ∙ sym (and_one (get_or a i 0) (get_or b i 0) j)
+
+  pub either_at : IsWord (in_either a b) i (bit_or (get_or a i 0) (get_or b i 0))
+  either_at j h = ap₂ (λ (x y : Bool). x || y) (member_at a i j h) (member_at b i j h) ∙ sym (or_one (get_or a i 0) (get_or b i 0) j)
+
   pub word_both : count_below (in_both a b) ((i + 1) * 64) ≡ count_below (in_both a b) (i * 64) + count_below (is_one (bit_and (get_or a i 0) (get_or b i 0))) 64
-  word_both =
-      count_word (in_both a b) i (bit_and (get_or a i 0) (get_or b i 0))
-      (λ j h. ap₂ (λ (x y : Bool). x && y) (member_at a i j h) (member_at b i j h) ∙ sym (and_one (get_or a i 0) (get_or b i 0) j))
+  word_both = count_word (in_both a b) i (bit_and (get_or a i 0) (get_or b i 0)) both_at
 
   pub word_either : count_below (in_either a b) ((i + 1) * 64) ≡ count_below (in_either a b) (i * 64) + count_below (is_one (bit_or (get_or a i 0) (get_or b i 0))) 64
-  word_either =
-      count_word (in_either a b) i (bit_or (get_or a i 0) (get_or b i 0))
-      (λ j h. ap₂ (λ (x y : Bool). x || y) (member_at a i j h) (member_at b i j h) ∙ sym (or_one (get_or a i 0) (get_or b i 0) j))
+  word_either = count_word (in_either a b) i (bit_or (get_or a i 0) (get_or b i 0)) either_at

@@ -1,41 +1,32 @@
 // Sets of numbers as words of bits, in a slice that the caller lends: n is a member where bit n % 64 of word n / 64 is one.
 #![tactic(auto)]
 
-ghost use Rattle.std.specs.Prelude.{◌≡◌, ◌+◌, ◌*◌, ◌-◌, ◌≤◌, ◌<◌, min, length};
-ghost use Rattle.bitset.specs.Sets.{is_one, member, in_both, in_either, with_member, without, joined, met, cleared};
+ghost use Rattle.std.specs.Prelude.{◌≡◌, ℕ, Bool, ◌*◌, ◌-◌, ◌≤◌, ◌<◌, min, length};
+ghost use Rattle.bitset.specs.Sets.{member, IsWord, in_both, in_either, with_member, without, joined, met, cleared};
 ghost use Rattle.bitset.specs.Sets.{count_below, next_from, numbers, words, listed, placed};
 
 // Sets are counted and listed as far as a u16 holds numbers.
 const NUMBERS: usize = 65536;
 
 // The words of so many numbers.
-const WORDS: usize = 1024;
-
-fn lesser(a: usize, b: usize) -> usize
-    ensures { result ≡ min a b }
-{
-    if a < b { a } else { b }
-}
+const WORDS: usize = NUMBERS / 64;
 
 // Whether n is a member. Past the end there is none.
 pub fn has(set: &[u64], n: usize) -> bool
     ensures { result ≡ member set.now n }
 {
-    let at = n / 64;
-    if at < set.len() {
-        ((set[at] >> (n % 64)) & 1) == 1
-    } else {
-        false
-    }
+    set.get(n / 64)
+        .is_some_and(|word| (word >> (n % 64)) & 1 == 1)
 }
 
-// n becomes a member, unless it is past the end.
+// n becomes a member, unless it is past the end. Words are written by place here and below: of what is written through `get_mut`, or through a `zip` of
+// `iter_mut`, a proof knows only how many words there are.
 pub fn add(set: &mut [u64], n: usize)
     ensures { set.new ≡ with_member set.old n }
 {
     let at = n / 64;
     if at < set.len() {
-        set[at] = set[at] | (1 << (n % 64));
+        set[at] |= 1 << (n % 64);
     }
 }
 
@@ -45,18 +36,16 @@ pub fn remove(set: &mut [u64], n: usize)
 {
     let at = n / 64;
     if at < set.len() {
-        set[at] = set[at] & !(1 << (n % 64));
+        set[at] &= !(1 << (n % 64));
     }
 }
 
-// No number is a member any more.
+// No number is a member any more. A loop, which becomes one memset: `fill` stores the last word apart from the others, which takes longer.
 pub fn clear(set: &mut [u64])
     ensures { set.new ≡ cleared set.old }
 {
-    let mut i = 0;
-    while i < set.len() {
-        set[i] = 0;
-        i += 1;
+    for word in set.iter_mut() {
+        *word = 0;
     }
 }
 
@@ -64,11 +53,8 @@ pub fn clear(set: &mut [u64])
 pub fn join(set: &mut [u64], other: &[u64])
     ensures { set.new ≡ joined set.old other.now }
 {
-    let n = lesser(set.len(), other.len());
-    let mut i = 0;
-    while i < n {
-        set[i] = set[i] | other[i];
-        i += 1;
+    for i in 0..set.len().min(other.len()) {
+        set[i] |= other[i];
     }
 }
 
@@ -76,32 +62,23 @@ pub fn join(set: &mut [u64], other: &[u64])
 pub fn meet(set: &mut [u64], other: &[u64])
     ensures { set.new ≡ met set.old other.now }
 {
-    let n = lesser(set.len(), other.len());
-    let mut i = 0;
-    while i < n {
-        set[i] = set[i] & other[i];
-        i += 1;
+    let n = set.len().min(other.len());
+    for i in 0..n {
+        set[i] &= other[i];
     }
     clear(&mut set[n..]);
 }
 
-// How many bits of a word are one.
-fn ones(word: u64) -> usize
-    ensures { result ≡ count_below (is_one word) 64 }
+// How many bits are one in n words, which `word` gives by place: so many numbers below n * 64 have the property that the words' bits tell.
+fn count_ones<F: Fn(usize) -> u64>(n: usize, word: F) -> usize
+    requires few { n ≤ words }
+    requires callable { (i : ℕ) → i < n → F.pre word i }
+    ensures most { result ≤ n * 64 }
+    ensures counted { (p : ℕ → Bool) → ((i x : ℕ) → i < n → F.post word i x → IsWord p i x) → result ≡ count_below p (n * 64) }
 {
-    u64::count_ones(word) as usize
-}
-
-// The ones of the words from place `from` up to place `to`: so many more members are below the end of these words than below their start.
-fn count_words(set: &[u64], from: usize, to: usize) -> usize
-    requires { (from ≤ to) × (to ≤ length set.now) × (to ≤ words) }
-    ensures { count_below (member set.now) (from * 64) + result ≡ count_below (member set.now) (to * 64) }
-{
-    let mut total: usize = 0;
-    let mut i = from;
-    while i < to {
-        total += ones(set[i]);
-        i += 1;
+    let mut total = 0;
+    for i in 0..n {
+        total += word(i).count_ones() as usize;
     }
     total
 }
@@ -110,55 +87,40 @@ fn count_words(set: &[u64], from: usize, to: usize) -> usize
 pub fn count(set: &[u64]) -> usize
     ensures { result ≡ count_below (member set.now) numbers }
 {
-    count_words(set, 0, lesser(set.len(), WORDS))
+    count_ones(set.len().min(WORDS), |i| set[i])
 }
 
 // How many numbers are members of both.
 pub fn count_shared(a: &[u64], b: &[u64]) -> usize
     ensures { result ≡ count_below (in_both a.now b.now) numbers }
 {
-    let n = lesser(lesser(a.len(), b.len()), WORDS);
-    let mut total: usize = 0;
-    let mut i = 0;
-    while i < n {
-        total += ones(a[i] & b[i]);
-        i += 1;
-    }
-    total
+    count_ones(a.len().min(b.len()).min(WORDS), |i| a[i] & b[i])
 }
 
-// How many numbers are members of one or both. Where one set has more words, those are counted by themselves.
+// How many numbers are members of one or both. The words that only the longer set has are counted by themselves.
 pub fn count_joined(a: &[u64], b: &[u64]) -> usize
     ensures { result ≡ count_below (in_either a.now b.now) numbers }
 {
-    let a_words = lesser(a.len(), WORDS);
-    let b_words = lesser(b.len(), WORDS);
-    let n = lesser(a_words, b_words);
-    let mut total: usize = 0;
-    let mut i = 0;
-    while i < n {
-        total += ones(a[i] | b[i]);
-        i += 1;
-    }
-    total + count_words(a, n, a_words) + count_words(b, n, b_words)
+    let both = a.len().min(b.len()).min(WORDS);
+    let longer = if a.len() < b.len() { b } else { a };
+    let alone = longer.len().min(WORDS) - both;
+    count_ones(both, |i| a[i] | b[i]) + count_ones(alone, |i| longer[both + i])
 }
 
-// The least member from `from` on that is below `end`; `end` where there is none, and `from` where that is not below `end`.
+// The least member from `from` on that is below `end`; `end` where there is none, and `from` where that is not below `end`. No Option, since next_from
+// gives a number in each of these cases.
 pub fn next(set: &[u64], from: usize, end: usize) -> usize
     ensures { result ≡ next_from (member set.now) from (end - from) }
 {
     if end <= from {
         return from;
     }
-    let words = lesser(set.len(), end / 64 + 1);
-    let mut i = from / 64;
     let mut low = from % 64;
-    while i < words {
+    for i in from / 64..set.len().min(end / 64 + 1) {
         let rest = set[i] >> low;
         if rest != 0 {
-            return lesser(i * 64 + low + u64::trailing_zeros(rest) as usize, end);
+            return (i * 64 + low + rest.trailing_zeros() as usize).min(end);
         }
-        i += 1;
         low = 0;
     }
     end
@@ -169,16 +131,14 @@ pub fn list(set: &[u64], below: usize, out: &mut [u16]) -> usize
     ensures count { result ≡ min (length (listed set.now below)) (length out.old) }
     ensures filled { out.new ≡ placed (listed set.now below) out.old }
 {
-    let end = lesser(below, NUMBERS);
+    let end = below.min(NUMBERS);
     let mut n = next(set, 0, end);
-    let mut put: usize = 0;
-    while n < end {
-        if put == out.len() {
+    for (put, place) in out.iter_mut().enumerate() {
+        if n >= end {
             return put;
         }
-        out[put] = n as u16;
-        put += 1;
+        *place = n as u16;
         n = next(set, n + 1, end);
     }
-    put
+    out.len()
 }

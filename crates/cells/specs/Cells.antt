@@ -1,7 +1,6 @@
 -- The words of this crate's contracts. A table is the list of its cells; a cell past its end reads 0, and a cell put there changes nothing.
-use Rattle.std.specs.Prelude.{ℕ, zero, suc, ◌+◌, ◌*◌, ◌/◌, ◌%◌, ◌≤◌, ◌<◌, ◌≡◌, Bool, true, false, ◌&&◌, List, [], ◌∷◌, ◌++◌, length, get_or, set, eqb, leb, ltb}
-use Rattle.cells.specs.declared.Found.{Found}
-use Rattle.cells.specs.declared.Found.TheVariants.{At, Nothing}
+use Rattle.std.specs.Prelude.{ℕ, zero, suc, ◌+◌, ◌*◌, ◌/◌, ◌%◌, ◌≤◌, ◌<◌, ◌≡◌, Bool, true, false, ◌&&◌, List, Option, Some, None, is_some, cond, [], ◌∷◌, ◌++◌, length, get_or, set, eqb, leb, ltb}
+use Rattle.std.specs.Option.{unwrap_or, option_or}
 
 ------ tests over places
 
@@ -21,29 +20,25 @@ all_falling s from n = every (λ i. leb (get_or s (from + i) 0) i) n
 ------ search
 
 -- one of two answers, by a test
-abbrev pub pick_found : Bool → Found → Found → Found
-pick_found true a b = a
-pick_found false a b = b
+abbrev pub pick_found : Bool → Option ℕ → Option ℕ → Option ℕ
+pick_found b x y = cond b x y
 
 -- the lowest of the n places from i on at which p holds
-unfoldable pub first_where : (ℕ → Bool) → ℕ → ℕ → Found
-first_where p i zero = Nothing
-first_where p i (suc n) = pick_found (p i) (At i) (first_where p (i + 1) n)
+unfoldable pub first_where : (ℕ → Bool) → ℕ → ℕ → Option ℕ
+first_where p i zero = None
+first_where p i (suc n) = pick_found (p i) (Some i) (first_where p (i + 1) n)
 
 -- something was found
-abbrev pub is_at : Found → Bool
-is_at (At k) = true
-is_at Nothing = false
+abbrev pub is_at : Option ℕ → Bool
+is_at f = is_some f
 
 -- where it was found, or 0
-abbrev pub or_zero : Found → ℕ
-or_zero (At k) = k
-or_zero Nothing = 0
+abbrev pub or_zero : Option ℕ → ℕ
+or_zero f = unwrap_or f 0
 
 -- the first answer, or the second where the first search found nothing
-abbrev pub or_else : Found → Found → Found
-or_else (At k) b = At k
-or_else Nothing b = b
+abbrev pub or_else : Option ℕ → Option ℕ → Option ℕ
+or_else f g = option_or f g
 
 ------ rows
 
@@ -109,5 +104,5 @@ abbrev pub has_id : List ℕ → List ℕ → ℕ → Id → ℕ → Bool
 has_id ks rs from x i = same_id (id_at ks rs (from + i)) x
 
 -- the lowest of the n places from `from` on that has the id x, counted from 0
-abbrev pub first_id : List ℕ → List ℕ → ℕ → ℕ → Id → Found
+abbrev pub first_id : List ℕ → List ℕ → ℕ → ℕ → Id → Option ℕ
 first_id ks rs from n x = first_where (has_id ks rs from x) 0 n

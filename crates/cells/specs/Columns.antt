@@ -1,10 +1,22 @@
 -- Laws of columns: what a test of n cells of a table, from a place on, says of each, and what of it stays once a cell was set.
-use Rattle.std.specs.Prelude.{ℕ, ◌+◌, ◌≤◌, ◌<◌, ◌≡◌, refl, Bool, true, false, List, ◌≢◌, length, get_or, set, eqb, leb, ltb}
+use Rattle.std.specs.Prelude.{ℕ, ◌+◌, ◌≤◌, ◌<◌, ◌≡◌, refl, Bool, true, false, cond, List, ◌≢◌, length, get_or, set, eqb, leb, ltb}
 use Rattle.std.proofs.Common.{sym, ap, ◌∙◌, arith, get_or-set_same, get_or-set_other, ltb-true, ltb-false, leb-true, lt-ltb, le-leb, eqb-true}
 use Rattle.std.proofs.Math.Seq.{set_out}
 use Rattle.std.proofs.lemmas.Bool.{eqb-false}
+use Rattle.std.specs.Ordering.{is_lt, nat_cmp}
+use Rattle.std.specs.declared.cmp.Ordering.TheVariants.{Less, Equal, Greater}
 use Rattle.cells.specs.Cells.{every, all_below, all_falling}
 use Rattle.cells.specs.Every.{every_step, every_at, every_imp, every_cong}
+
+------ std's order of numbers is theirs
+
+order_by : (b c : Bool) → is_lt (cond b Less (cond c Equal Greater)) ≡ b
+order_by true c = refl
+order_by false true = refl
+order_by false false = refl
+
+pub numbers_ordered : (x y : ℕ) → is_lt (nat_cmp x y) ≡ ltb x y
+numbers_ordered x y = order_by (ltb x y) (eqb x y)
 
 ------ any test p of a cell's number and of what the cell holds
 

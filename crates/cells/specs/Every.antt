@@ -2,29 +2,17 @@
 use Rattle.std.specs.Prelude.{ℕ, zero, suc, ◌+◌, ◌≤◌, ◌<◌, ◌≡◌, refl, Bool, true, false, ◌&&◌, ◌||◌, ◌⊎◌}
 use Rattle.std.proofs.Common.{sym, ◌∙◌, ⊎_elim, eq-or-lt_of_le, add-one, arith}
 use Rattle.std.proofs.Math.Bool.{and-true, and_assoc}
+use Rattle.std.proofs.lemmas.Bool.{and_parts}
+use Rattle.std.specs.Cmp.{both_ways}
 use Rattle.cells.specs.Cells.{every}
 
 ------ tests
-
-pub and_left : (a b : Bool) → a && b ≡ true → a ≡ true
-and_left true b e = refl
-and_left false b e = e
-
-pub and_right : (a b : Bool) → a && b ≡ true → b ≡ true
-and_right true b e = e
-and_right false b e = let z : false ≡ true = e in cc
 
 -- a second test that the first one follows from adds nothing
 pub or_same : (a b : Bool) → (b ≡ true → a ≡ true) → a ≡ a || b
 or_same true b f = refl
 or_same false true f = f refl
 or_same false false f = refl
-
--- two tests that follow from each other are one
-pub both_ways : (a b : Bool) → (a ≡ true → b ≡ true) → (b ≡ true → a ≡ true) → a ≡ b
-both_ways true b f g = sym (f refl)
-both_ways false true f g = g refl
-both_ways false false f g = refl
 
 -- a test that is false where it is true is false
 by_cases : (a : Bool) → (a ≡ true → true ≡ false) → a ≡ false
@@ -55,8 +43,8 @@ unfolding every
 every_at p zero i e h = absurd (omega arith)
 every_at p (suc n) i e h =
     ⊎_elim
-    (λ (w : i ≡ n). rw w (and_right (every p n) (p n) e))
-    (λ (w : i < n). every_at p n i (and_left (every p n) (p n) e) w)
+    (λ (w : i ≡ n). rw w (and_parts (every p n) (p n) e).1)
+    (λ (w : i < n). every_at p n i (and_parts (every p n) (p n) e).0 w)
     (last_or n i h)
 
 pub every_all : (p : ℕ → Bool) (n : ℕ) → ((i : ℕ) → i < n → p i ≡ true) → every p n ≡ true

@@ -1,16 +1,16 @@
 -- Laws of ids and of tables of ids: `same_id` is an equivalence, the key and the rest together are the id, and what putting an id changes.
 use Prim.Native.Nat.{ℕ, zero, suc, ◌+◌, ◌-◌, ◌*◌, ◌/◌, ◌^◌, ◌≤◌, ◌<◌}
-use Rattle.std.specs.Prelude.{◌≡◌, refl, Bool, true, false, ◌&&◌, ◌||◌, not, List, ◌≢◌, length, set, take, eqb, ltb}
+use Rattle.std.specs.Prelude.{◌≡◌, refl, Bool, true, false, ◌&&◌, ◌||◌, not, Some, None, List, ◌≢◌, length, set, take, eqb, ltb}
 use Rattle.std.proofs.Common.{sym, ap, ◌∙◌, true≢false, div-add-mod', mod-eq_of_lt, zero-add, arith, length-append, get_or-append-add, get_or-take, ext_get_or, eqb-true, eq-eqb, ne_eqb, ltb-true, ltb-false}
 use Rattle.std.proofs.Math.ListN.{get_or, length-set, get_or-append, get_or-eq_default}
 use Rattle.std.proofs.Math.Seq.{get_or-set_same, get_or-set_other}
 use Rattle.std.proofs.Math.Pow.{shr_lt, shr-shr}
 use Rattle.std.proofs.lemmas.Bool.{eqb-false, not-true}
 use Rattle.cells.specs.Cells.{every, first_where, pick_found, or_else, is_at, row, row_put, Id, Bytes, IsId, same_id, key_of, key_bytes, id_at, Places, keys_put, rests_put, same_rest, has_id, first_id}
-use Rattle.cells.specs.Every.{or_same, both_ways, every_at, every_all, every_fails, every_cong, every_split}
+use Rattle.std.specs.Cmp.{both_ways}
+use Rattle.cells.specs.Every.{or_same, every_at, every_all, every_fails, every_cong, every_split}
 use Rattle.cells.specs.First.{first_none, first_cong, first_suc, else_any}
 use Rattle.cells.specs.Rows.{row_length, row_at, row_cong, put_length, put_at, put_other}
-use Rattle.cells.specs.declared.Found.TheVariants.{At, Nothing}
 
 ------ the same id
 
@@ -173,7 +173,7 @@ same_key ks rs p x l b f = id_by_key ks rs p x l b ∙ rw (eq-eqb (get_or ks p 0
 pub block_without : (ks rs : List ℕ) (from start n key : ℕ) (x : Id) (lacks : Bool)
     → ((i : ℕ) → get_or ks i 0 < 2 ^ 32) → Bytes x → key ≡ key_of x
     → lacks ≡ every (λ i. not (eqb (get_or ks (from + start + i) 0) key)) n → lacks ≡ true
-    → Nothing ≡ first_where (has_id ks rs from x) start n
+    → None ≡ first_where (has_id ks rs from x) start n
 block_without ks rs from start n key x lacks l b q e t =
     sym
     (first_none (has_id ks rs from x) start n
@@ -271,7 +271,7 @@ module _ (ks rs : List ℕ) (from n : ℕ) (x y : Id) where
 
   -- putting x at the place after them: y is where it was, else it is there if it is x
   module _ (h : Places ks rs (from + n + 1)) (b : Bytes x) where
-    pub first_id_more : first_id (keys_put ks (from + n) x) (rests_put rs (from + n) x) from (n + 1) y ≡ or_else (first_id ks rs from n y) (pick_found (same_id x y) (At n) Nothing)
+    pub first_id_more : first_id (keys_put ks (from + n) x) (rests_put rs (from + n) x) from (n + 1) y ≡ or_else (first_id ks rs from n y) (pick_found (same_id x y) (Some n) None)
     first_id_more =
         let old : first_id (keys_put ks (from + n) x) (rests_put rs (from + n) x) from n y ≡ first_id ks rs from n y =
         first_id_other (from + n) (λ (i : ℕ) (k : i < n) (e : from + i ≡ from + n). omega arith) in

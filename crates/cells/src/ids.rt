@@ -3,8 +3,6 @@
 ghost use Rattle.std.specs.Prelude.{◌≡◌, not, ◌+◌, ◌-◌, ◌*◌, ◌≤◌, ◌<◌, ◌%◌, length, get_or, eqb};
 ghost use Rattle.cells.specs.Cells.{every, first_where, IsId, same_id, same_rest, key_of, id_at, Places, keys_put, rests_put, has_id, first_id};
 
-use super::Found;
-
 // How many bytes of an id are its key, and how many come after it.
 const KEY: usize = 4;
 
@@ -13,38 +11,18 @@ const REST: usize = 28;
 // How many keys are compared at once.
 const BLOCK: usize = 64;
 
-// x again, which the caller then knows to be an id: the prover knows the length and the bytes' range
-// of an array that is taken by value, and of no reference to one.
-pub fn as_id(x: [u8; 32]) -> [u8; 32]
-    ensures { (result ≡ x) × IsId x }
-{
-    x
-}
-
 // An id's key: its first four bytes as one number, the lowest byte first.
-fn key_of(x: [u8; 32]) -> u32
-    ensures { (result ≡ key_of x) × IsId x }
+fn key_of(x: &[u8; 32]) -> u32
+    ensures { (result ≡ key_of x.now) × IsId x.now }
 {
-    x[0] as u32 + x[1] as u32 * 256 + x[2] as u32 * 65_536 + x[3] as u32 * 16_777_216
-}
-
-fn low_byte(k: u32) -> u8
-    ensures { result ≡ k % 256 }
-{
-    (k % 256) as u8
+    u32::from_le_bytes([x[0], x[1], x[2], x[3]])
 }
 
 // Whether two ids have the same bytes.
 pub fn same_id(x: &[u8; 32], y: &[u8; 32]) -> bool
     ensures { result ≡ same_id x.now y.now }
 {
-    let mut same = true;
-    let mut i: usize = 0;
-    while i < 32 {
-        same = same & (x[i] == y[i]);
-        i += 1;
-    }
-    same
+    x == y
 }
 
 // Whether the 28 bytes from a place on are those of x after its key.
@@ -52,13 +30,7 @@ fn same_rest(rests: &[u8], from: usize, x: &[u8; 32]) -> bool
     requires { from + 28 ≤ length rests.now }
     ensures { result ≡ same_rest rests.now from x.now }
 {
-    let mut same = true;
-    let mut i: usize = 0;
-    while i < REST {
-        same = same & (rests[from + i] == x[KEY + i]);
-        i += 1;
-    }
-    same
+    rests[from..from + REST] == x[KEY..]
 }
 
 // Whether place p has the id x, whose key is at hand: the other bytes are read only where the key is the same.
@@ -66,13 +38,12 @@ fn is_at(keys: &[u32], rests: &[u8], p: usize, x: &[u8; 32], key: u32) -> bool
     requires { Places keys.now rests.now (p + 1) × (key ≡ key_of x.now) × IsId x.now }
     ensures { result ≡ same_id (id_at keys.now rests.now p) x.now }
 {
-    if keys[p] != key {
-        return false;
-    }
-    same_rest(rests, p * REST, x)
+    keys[p] == key && same_rest(rests, p * REST, x)
 }
 
-// The lowest place from start up to stop, counted from `from`, that has the id x.
+// The lowest place from start up to stop, counted from `from`, that has the id x. Never inlined, so that the loop over
+// blocks, which seldom calls it, keeps its registers.
+#[inline(never)]
 fn first_between(
     keys: &[u32],
     rests: &[u8],
@@ -80,67 +51,47 @@ fn first_between(
     start: usize,
     stop: usize,
     x: &[u8; 32],
-) -> Found
+) -> Option<usize>
     requires { Places keys.now rests.now (from + stop) × (start ≤ stop) }
     ensures { result ≡ first_where (has_id keys.now rests.now from x.now) start (stop - start) }
 {
-    let key = key_of(*x);
-    let mut i = start;
-    while i < stop {
+    let key = key_of(x);
+    for i in start..stop {
         if is_at(keys, rests, from + i, x, key) {
-            return Found::At(i);
+            return Some(i);
         }
-        i += 1;
     }
-    Found::Nothing
+    None
 }
 
-// Whether none of a block of keys is this one. The loop has no branch, so that LLVM compares many at once.
-fn block_lacks(keys: &[u32], from: usize, key: u32) -> bool
-    requires { from + 64 ≤ length keys.now }
-    ensures { result ≡ every (λ i. not (eqb (get_or keys.now (from + i) 0) key)) 64 }
+// Whether none of a block of keys is this one. Without a branch, LLVM compares many at once.
+fn block_lacks(block: &[u32; BLOCK], key: u32) -> bool
+    ensures { result ≡ every (λ i. not (eqb (get_or block.now i 0) key)) 64 }
 {
     let mut lacks = true;
-    let mut i: usize = 0;
-    while i < BLOCK {
-        lacks = lacks & (keys[from + i] != key);
-        i += 1;
+    for k in block {
+        lacks &= *k != key;
     }
     lacks
 }
 
-// The lowest place of a block that has the id x: it is gone through singly only where one of its keys is x's.
-fn first_in_block(
-    keys: &[u32],
-    rests: &[u8],
-    from: usize,
-    start: usize,
-    x: &[u8; 32],
-    key: u32,
-) -> Found
-    requires { Places keys.now rests.now (from + (start + 64)) × (key ≡ key_of x.now) × IsId x.now }
-    ensures { result ≡ first_where (has_id keys.now rests.now from x.now) start 64 }
-{
-    if block_lacks(keys, from + start, key) {
-        return Found::Nothing;
-    }
-    first_between(keys, rests, from, start, start + BLOCK, x)
-}
-
-// The lowest of the n places from `from` on that has the id x, counted from 0.
-pub fn find_id(keys: &[u32], rests: &[u8], from: usize, n: usize, x: &[u8; 32]) -> Found
+// The lowest of the n places from `from` on that has the id x, counted from 0. A block of keys is gone through singly
+// only where one of them is x's.
+pub fn find_id(keys: &[u32], rests: &[u8], from: usize, n: usize, x: &[u8; 32]) -> Option<usize>
     requires { Places keys.now rests.now (from + n) }
     ensures { result ≡ first_id keys.now rests.now from n x.now }
 {
-    let key = key_of(*x);
-    let mut i: usize = 0;
-    while BLOCK <= n - i {
-        match first_in_block(keys, rests, from, i, x, key) {
-            Found::At(p) => return Found::At(p),
-            Found::Nothing => i += BLOCK,
+    let key = key_of(x);
+    let (blocks, _) = keys[from..from + n].as_chunks::<BLOCK>();
+    for (b, block) in blocks.iter().enumerate() {
+        if !block_lacks(block, key) {
+            let start = b * BLOCK;
+            if let Some(p) = first_between(keys, rests, from, start, start + BLOCK, x) {
+                return Some(p);
+            }
         }
     }
-    first_between(keys, rests, from, i, n, x)
+    first_between(keys, rests, from, blocks.len() * BLOCK, n, x)
 }
 
 // x put at place p.
@@ -148,15 +99,9 @@ pub fn put_id(keys: &mut [u32], rests: &mut [u8], p: usize, x: &[u8; 32])
     requires { Places keys.old rests.old (p + 1) }
     ensures { (keys.new ≡ keys_put keys.old p x.now) × (rests.new ≡ rests_put rests.old p x.now) }
 {
-    // A copy, since LLVM cannot tell that x lies outside rests.
-    let id = *x;
-    keys[p] = key_of(id);
+    keys[p] = key_of(x);
     let from = p * REST;
-    let mut i: usize = 0;
-    while i < REST {
-        rests[from + i] = id[KEY + i];
-        i += 1;
-    }
+    rests[from..from + REST].copy_from_slice(&x[KEY..]);
 }
 
 // The id at place p.
@@ -164,17 +109,9 @@ pub fn get_id(keys: &[u32], rests: &[u8], p: usize) -> [u8; 32]
     requires { Places keys.now rests.now (p + 1) }
     ensures { result ≡ id_at keys.now rests.now p }
 {
-    let key = keys[p];
-    let mut id = [0u8; 32];
-    id[0] = low_byte(key);
-    id[1] = low_byte(key / 256);
-    id[2] = low_byte(key / 65_536);
-    id[3] = low_byte(key / 16_777_216);
+    let mut id = [0; 32];
+    id[..KEY].copy_from_slice(&keys[p].to_le_bytes());
     let from = p * REST;
-    let mut i: usize = 0;
-    while i < REST {
-        id[KEY + i] = rests[from + i];
-        i += 1;
-    }
+    id[KEY..].copy_from_slice(&rests[from..from + REST]);
     id
 }

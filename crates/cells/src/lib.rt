@@ -4,56 +4,60 @@
 mod columns;
 mod ids;
 
-ghost use Rattle.std.specs.Prelude.{◌≡◌, ◌+◌, ◌<◌, ◌^◌, length, get_or, set};
+ghost use Rattle.std.specs.Prelude.{◌≡◌, ℕ, ◌+◌, ◌<◌, ◌^◌, length, get_or, set, ltb};
+ghost use Rattle.std.specs.Ordering.{partial_lt};
 ghost use Rattle.cells.specs.Cells.{row_put};
+ghost use Rattle.cells.specs.Columns.{numbers_ordered};
 
-pub use columns::{all_below16, all_below32, all_falling32};
-pub use ids::{as_id, find_id, get_id, put_id, same_id};
+pub use columns::{all_below, all_falling};
+pub use ids::{find_id, get_id, put_id, same_id};
 
-// Where a search found what it looks for.
-#[derive(Clone, Copy)]
-pub enum Found {
-    At(usize),
-    Nothing,
-}
-
-// A number that stands in a cell.
-pub trait Cell: Copy {
+// A number that a table has in each of its cells. The two laws say that std's default is 0, and that std's order is that of numbers.
+pub trait Cell: Copy + Default + PartialOrd {
     ghost zero: { Self };
 
-    fn zero() -> Self
-        ensures { result ≡ zero };
+    ghost number: { Self → ℕ };
+
+    ghost default_is_zero: { (x : Self) → Self.is_default x → x ≡ zero };
+
+    ghost ordered: { (x y : Self) → partial_lt Self.partial_cmp x y ≡ ltb (number x) (number y) };
 }
 
 impl Cell for u16 {
     ghost zero = { 0 };
 
-    fn zero() -> u16 {
-        0
-    }
+    ghost number = { λ x. x };
+
+    ghost default_is_zero = { λ x e. e };
+
+    ghost ordered = { numbers_ordered };
 }
 
 impl Cell for u32 {
     ghost zero = { 0 };
 
-    fn zero() -> u32 {
-        0
-    }
+    ghost number = { λ x. x };
+
+    ghost default_is_zero = { λ x e. e };
+
+    ghost ordered = { numbers_ordered };
 }
 
 impl Cell for u64 {
     ghost zero = { 0 };
 
-    fn zero() -> u64 {
-        0
-    }
+    ghost number = { λ x. x };
+
+    ghost default_is_zero = { λ x e. e };
+
+    ghost ordered = { numbers_ordered };
 }
 
 // What stands at i, and 0 past the end.
 pub fn at<T: Cell>(s: &[T], i: usize) -> T
     ensures { result ≡ get_or s.now i T.zero }
 {
-    if i < s.len() { s[i] } else { T::zero() }
+    s.get(i).copied().unwrap_or_default()
 }
 
 // v put at i, and nothing done past the end.

@@ -1,9 +1,7 @@
 -- What is known once a call's ids are named and the mark is cleared: enough for the steps after it.
-use Rattle.std.specs.Prelude.{ℕ, suc, ◌+◌, ◌≤◌, ◌<◌, ◌≡◌, List, length, get_or}
+use Rattle.std.specs.Prelude.{ℕ, suc, ◌+◌, ◌≤◌, ◌<◌, ◌≡◌, List, length, get_or, Option, Some, None}
 use Rattle.std.proofs.Common.{sym, ap, ◌∙◌, arith}
 use Rattle.cells.specs.Cells.{Id, has_id}
-use Rattle.cells.specs.declared.Found.{Found}
-use Rattle.cells.specs.declared.Found.TheVariants.{At, Nothing}
 use Rattle.cells.specs.First.{first_found}
 use Rattle.store.specs.Limits.{name_limit, parent_limit, null_limit, nulls_at}
 use Rattle.store.specs.Tables.{Store, names, entries, spent, used, place_of}
@@ -125,13 +123,13 @@ module _ (t : Store) (x : Id) (ps : List Id) (p : ℕ) (r : Room t x ps p) where
       pub genesis_parts : NullsRight w
       genesis_parts = null_parts w held_here.sound
 
-      pub genesis_record : (z : Id) (f : Found) (n : ℕ) → f ≡ place_of w z → f ≡ At n → (c < name_limit) × ((n < null_limit) × (length ns ≤ parent_limit))
+      pub genesis_record : (z : Id) (f : Option ℕ) (n : ℕ) → f ≡ place_of w z → f ≡ Some n → (c < name_limit) × ((n < null_limit) × (length ns ≤ parent_limit))
       genesis_record z f n e h =
           let b = first_found (has_id w.keys w.rests nulls_at z) 0 (spent w) n (sym e ∙ h) in
           (own_below, (omega (arith, b.below, held_here.sound.within.few_spent), omega (arith, l.count, r.short)))
 
-      pub genesis_keepable : (z : Id) (f : Found) → p ≡ places_wanted (place_of t z) → f ≡ place_of w z → f ≡ Nothing → Keepable w c ns
+      pub genesis_keepable : (z : Id) (f : Option ℕ) → p ≡ places_wanted (place_of t z) → f ≡ place_of w z → f ≡ None → Keepable w c ns
       genesis_keepable z f k e h =
-          let a : place_of t z ≡ Nothing = sym (only_place w held_here z) ∙ sym e ∙ h in
+          let a : place_of t z ≡ None = sym (only_place w held_here z) ∙ sym e ∙ h in
           let d : p ≡ 1 = k ∙ rw a in
           only_keepable w held_here (omega (arith, r.null_room))

@@ -1,10 +1,8 @@
 -- What an insert changes: names, the mark, the children of its parents, its own record and its nullifier; and no other view.
-use Rattle.std.specs.Prelude.{ℕ, suc, ◌+◌, ◌≤◌, ◌<◌, ◌≡◌, ◌≢◌, false, List, ◌++◌, length, Ok, Err}
+use Rattle.std.specs.Prelude.{ℕ, suc, ◌+◌, ◌≤◌, ◌<◌, ◌≡◌, ◌≢◌, false, List, ◌++◌, length, Ok, Err, Option, Some, None}
 use Rattle.std.proofs.Math.Path.{refl}
 use Rattle.std.proofs.Common.{sym, ap, ◌∙◌, arith}
 use Rattle.cells.specs.Cells.{Id, Bytes, IsId, same_id, pick_found, or_else}
-use Rattle.cells.specs.declared.Found.{Found}
-use Rattle.cells.specs.declared.Found.TheVariants.{At, Nothing}
 use Rattle.store.specs.Limits.{name_limit, parent_limit, null_limit}
 use Rattle.store.specs.Tables.{Store, names, spent, pairs, waiting, accepted, used, marked, id_of, number_of, place_of, place_cell, parent_count, parent_at, nonce_of, held, children_of, with_null, with_record}
 use Rattle.store.specs.Facts.{Sound}
@@ -149,12 +147,12 @@ pub record HasRecord (t : Store) (x : Id) (ps : List Id) (place : ℕ) (u : Stor
 -- z is one nullifier more, and the others keep their places
 pub record HasNull (t : Store) (z : Id) (u : Store) : Type 0 where
   pub spent_are : spent u ≡ spent t + 1
-  pub place_are : Bytes z → (y : Id) → place_of u y ≡ or_else (place_of t y) (pick_found (same_id z y) (At (spent t)) Nothing)
+  pub place_are : Bytes z → (y : Id) → place_of u y ≡ or_else (place_of t y) (pick_found (same_id z y) (Some (spent t)) None)
 
 -- where the nullifier of a genesis insert stands: where it was found, or after the others
-abbrev pub place_for : Store → Found → ℕ
-place_for t (At n) = n
-place_for t Nothing = spent t
+abbrev pub place_for : Store → Option ℕ → ℕ
+place_for t (Some n) = n
+place_for t None = spent t
 
 -- how many parents of k got an entry, by the reply
 abbrev pub entered_by : Reply → ℕ → ℕ
@@ -207,8 +205,8 @@ module _ (t : Store) (x z : Id) (ps : List Id) (p : ℕ) (r : Room t x ps p) (w 
           place_are = λ (b : Bytes z) (y : Id).
               (record_nulls (with_null w z) (own_name t x ps) (spent w) (parent_name t x ps) (length ps)).place_same y
               ∙ null_place w z o.sound.lengths free b y
-              ∙ ap (λ (f : Found). or_else f (pick_found (same_id z y) (At (spent w)) Nothing)) (o.nulls.place_same y ∙ begun_place t x ps p r y)
-              ∙ ap (λ (n : ℕ). or_else (place_of t y) (pick_found (same_id z y) (At n) Nothing)) e;
+              ∙ ap (λ (f : Option ℕ). or_else f (pick_found (same_id z y) (Some (spent w)) None)) (o.nulls.place_same y ∙ begun_place t x ps p r y)
+              ∙ ap (λ (n : ℕ). or_else (place_of t y) (pick_found (same_id z y) (Some n) None)) e;
         }
 
     -- nullifier and record leave all children as the walk left them
@@ -221,28 +219,28 @@ module _ (t : Store) (x z : Id) (ps : List Id) (p : ℕ) (r : Room t x ps p) (w 
     stored_children (Err i) m h = refl
 
   -- the genesis insert keeps the record with the place that was found, or with a new one
-  later_kept : (f : Found) → place_of t z ≡ f → p ≡ places_wanted f → Later (begun t x ps) (kept_at f w (own_name t x ps) z (parent_name t x ps) (length ps)) (own_name t x ps)
-  later_kept (At n) e q =
+  later_kept : (f : Option ℕ) → place_of t z ≡ f → p ≡ places_wanted f → Later (begun t x ps) (kept_at f w (own_name t x ps) z (parent_name t x ps) (length ps)) (own_name t x ps)
+  later_kept (Some n) e q =
       later_then (begun t x ps) w (with_record w (own_name t x ps) n (parent_name t x ps) (length ps)) (own_name t x ps)
       (later_walk (begun t x ps) w (own_name t x ps) (length ps) o)
       (later_record w (own_name t x ps) n (parent_name t x ps) (length ps) o.sound own r.short)
-  later_kept Nothing e q = later_stored (omega (arith, r.null_room)) (Ok tt)
+  later_kept None e q = later_stored (omega (arith, r.null_room)) (Ok tt)
 
-  has_kept : (f : Found) → place_of t z ≡ f → p ≡ places_wanted f → HasRecord t x ps (place_for t f) (kept_at f w (own_name t x ps) z (parent_name t x ps) (length ps))
-  has_kept (At n) e q =
+  has_kept : (f : Option ℕ) → place_of t z ≡ f → p ≡ places_wanted f → HasRecord t x ps (place_for t f) (kept_at f w (own_name t x ps) z (parent_name t x ps) (length ps))
+  has_kept (Some n) e q =
       let l = o.sound.lengths in
       record {
         place_is = record_cell w (own_name t x ps) n (parent_name t x ps) (length ps) l own r.short;
         count_is = record_count w (own_name t x ps) n (parent_name t x ps) (length ps) l own r.short;
         parent_is = record_parent w (own_name t x ps) n (parent_name t x ps) (length ps) l own r.short;
       }
-  has_kept Nothing e q = has_record (omega (arith, r.null_room))
+  has_kept None e q = has_record (omega (arith, r.null_room))
 
-  kept_children : (f : Found) → p ≡ places_wanted f → (m : ℕ) → m < names w → children_of (kept_at f w (own_name t x ps) z (parent_name t x ps) (length ps)) m ≡ children_of w m
-  kept_children (At n) q m h =
+  kept_children : (f : Option ℕ) → p ≡ places_wanted f → (m : ℕ) → m < names w → children_of (kept_at f w (own_name t x ps) z (parent_name t x ps) (length ps)) m ≡ children_of w m
+  kept_children (Some n) q m h =
       children_kept w o.sound (with_record w (own_name t x ps) n (parent_name t x ps) (length ps))
       (record_children w (own_name t x ps) n (parent_name t x ps) (length ps) o.sound.lengths own r.short) m h
-  kept_children Nothing q m h = stored_children (omega (arith, r.null_room)) (Ok tt) m h
+  kept_children None q m h = stored_children (omega (arith, r.null_room)) (Ok tt) m h
 
 entered_reply : (e : Entered) (w : Store) (c : ℕ) (z : Id) (ns : ℕ → ℕ) (k : ℕ) → passed_of e 0 k ≡ entered_by (stored_if e w c z ns k).reply k
 entered_reply (Ok u) w c z ns k = refl

@@ -1,6 +1,6 @@
 -- The parents gone through in order, and what a call leaves by each way through its code.
 use Prim.Native.Nat.{ℕ, zero, suc, ◌+◌, ◌*◌, ◌-◌, ◌≤◌, ◌<◌}
-use Rattle.std.specs.Prelude.{◌≡◌, refl, Bool, true, false, List, length, get_or, take, Ok, Err, ⊤, MatchResult, IsErrAnd}
+use Rattle.std.specs.Prelude.{◌≡◌, refl, Bool, true, false, List, length, get_or, take, Ok, Err, ⊤, MatchResult, IsErrAnd, Option, Some, None}
 use Rattle.std.proofs.Math.Path.{sym}
 use Rattle.std.proofs.Common.{ap, ◌∙◌, add-one, length-set, get_or-set_same}
 use native.Mathlib.Omega.{arith}
@@ -9,8 +9,6 @@ use Rattle.std.proofs.lemmas.List.{get_or-take, length-take-le, length-drop}
 use Rattle.std.proofs.lemmas.Grind.{get_or_after_one}
 use Rattle.cells.specs.Cells.{Id}
 use Rattle.cells.specs.Rows.{put_cong}
-use Rattle.cells.specs.declared.Found.{Found}
-use Rattle.cells.specs.declared.Found.TheVariants.{At, Nothing}
 use Rattle.store.specs.Limits.{head_length, parents_at, parent_limit}
 use Rattle.store.specs.Tables.{Store, entries, spent, held, place_of, with_child, with_null, with_record, emptied}
 use Rattle.store.specs.Sound.{lengths_right}
@@ -185,7 +183,7 @@ module _ (t : Store) (x z : Id) (ps : List Id) (u : Store) (c : ℕ) (ns : List 
       let b : v ≡ kept_new w (own_name t x ps) z (parent_name t x ps) (length ps) = k ∙ record_here (with_null w z) (spent w) in
       rw (a, b)
 
-  genesis_here : (w : Store) (f : Found) (v : Store) → w ≡ held_entered u c (λ j. get_or ns j 0) (length ns) → f ≡ place_of w z → v ≡ kept_at f w (own_name t x ps) z (parent_name t x ps) (length ps) → v ≡ genesis_done t x z ps
+  genesis_here : (w : Store) (f : Option ℕ) (v : Store) → w ≡ held_entered u c (λ j. get_or ns j 0) (length ns) → f ≡ place_of w z → v ≡ kept_at f w (own_name t x ps) z (parent_name t x ps) (length ps) → v ≡ genesis_done t x z ps
   unfolding genesis_done
   genesis_here w f v e q k =
       let a : w ≡ held_entered (begun t x ps) (own_name t x ps) (parent_name t x ps) (length ps) =
@@ -193,10 +191,10 @@ module _ (t : Store) (x z : Id) (ps : List Id) (u : Store) (c : ℕ) (ns : List 
       k ∙ rw (q, ← a)
 
   -- a genesis insert whose nullifier is there, and one whose nullifier is new
-  pub genesis_known : (w : Store) (f : Found) (p : ℕ) (v : Store) → w ≡ held_entered u c (λ j. get_or ns j 0) (length ns) → f ≡ place_of w z → f ≡ At p → v ≡ with_record w c p (λ j. get_or ns j 0) (length ns) → v ≡ genesis_done t x z ps
+  pub genesis_known : (w : Store) (f : Option ℕ) (p : ℕ) (v : Store) → w ≡ held_entered u c (λ j. get_or ns j 0) (length ns) → f ≡ place_of w z → f ≡ Some p → v ≡ with_record w c p (λ j. get_or ns j 0) (length ns) → v ≡ genesis_done t x z ps
   genesis_known w f p v e q h k = genesis_here w f v e q (k ∙ record_here w p ∙ rw h)
 
-  pub genesis_new : (w : Store) (f : Found) (v : Store) → w ≡ held_entered u c (λ j. get_or ns j 0) (length ns) → f ≡ place_of w z → f ≡ Nothing → v ≡ kept_new w c z (λ j. get_or ns j 0) (length ns) → v ≡ genesis_done t x z ps
+  pub genesis_new : (w : Store) (f : Option ℕ) (v : Store) → w ≡ held_entered u c (λ j. get_or ns j 0) (length ns) → f ≡ place_of w z → f ≡ None → v ≡ kept_new w c z (λ j. get_or ns j 0) (length ns) → v ≡ genesis_done t x z ps
   genesis_new w f v e q h k = genesis_here w f v e q (k ∙ record_here (with_null w z) (spent w) ∙ rw h)
 
 module _ (t : Store) (x z : Id) (ps : List Id) where

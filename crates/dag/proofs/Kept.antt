@@ -1,10 +1,8 @@
 -- A store that is not bad is not bad after any of these calls; and a call's promise leaves one answer and one set of parts.
-use Rattle.std.specs.Prelude.{ℕ, suc, ◌≤◌, ◌<◌, ◌≡◌, refl, Bool, true, false, List, length, Ok, Err}
+use Rattle.std.specs.Prelude.{ℕ, suc, ◌≤◌, ◌<◌, ◌≡◌, refl, Bool, true, false, List, length, Ok, Err, Option, Some, None}
 use Rattle.std.proofs.Common.{sym, ap, ◌∙◌, arith}
 use Rattle.cells.specs.Cells.{Id, has_id}
 use Rattle.cells.specs.First.{first_found}
-use Rattle.cells.specs.declared.Found.{Found}
-use Rattle.cells.specs.declared.Found.TheVariants.{At, Nothing}
 use Rattle.store.specs.Limits.{parent_limit, null_limit, nulls_at}
 use Rattle.store.specs.Tables.{Store, names, spent, used, place_of, with_null, with_record}
 use Rattle.store.specs.Sound.{lengths_right}
@@ -72,13 +70,13 @@ module _ (t : Store) (x z : Id) (ps : List Id) (p : ℕ) (r : Room t x ps p) whe
   stored_sound (Ok u) w o h = new_sound w (own_name t x ps) z (parent_name t x ps) (length ps) (fitting w o) (omega (arith, o.spent_same, begun_spent t x ps p r))
   stored_sound (Err i) w o h = o.sound
 
-  kept_sound : (f : Found) (w : Store) → place_of w z ≡ f → OnlyEntries (begun t x ps) w (length ps) → p ≡ places_wanted (place_of t z)
+  kept_sound : (f : Option ℕ) (w : Store) → place_of w z ≡ f → OnlyEntries (begun t x ps) w (length ps) → p ≡ places_wanted (place_of t z)
       → Sound (kept_at f w (own_name t x ps) z (parent_name t x ps) (length ps))
-  kept_sound (At n) w e o q =
+  kept_sound (Some n) w e o q =
       let b = first_found (has_id w.keys w.rests nulls_at z) 0 (spent w) n e in
       known_sound w (own_name t x ps) n (parent_name t x ps) (length ps) (fitting w o) (omega (arith, b.below))
-  kept_sound Nothing w e o q =
-      let a : place_of t z ≡ Nothing = sym (begun_place t x ps p r z) ∙ sym (o.nulls.place_same z) ∙ e in
+  kept_sound None w e o q =
+      let a : place_of t z ≡ None = sym (begun_place t x ps p r z) ∙ sym (o.nulls.place_same z) ∙ e in
       let d : p ≡ 1 = q ∙ rw a in
       new_sound w (own_name t x ps) z (parent_name t x ps) (length ps) (fitting w o) (omega (arith, o.spent_same, begun_spent t x ps p r, r.null_room))
 

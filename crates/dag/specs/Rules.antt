@@ -1,9 +1,7 @@
 -- The inserts and the emptying. A call is refused in the order in which the refusals are numbered, before it changes anything;
 -- only a missing parent is found on the way.
-use Rattle.std.specs.Prelude.{ℕ, zero, suc, ◌+◌, Bool, true, false, not, List, length, ltb, Result, Ok, Err, ⊤}
+use Rattle.std.specs.Prelude.{ℕ, zero, suc, ◌+◌, Bool, true, false, not, List, length, ltb, Result, Ok, Err, ⊤, Option, Some, None}
 use Rattle.cells.specs.Cells.{Id}
-use Rattle.cells.specs.declared.Found.{Found}
-use Rattle.cells.specs.declared.Found.TheVariants.{At, Nothing}
 use Rattle.store.specs.Limits.{parent_limit, fewest_parents, most_parents}
 use Rattle.store.specs.Tables.{Store, spent, held, is_spent, place_of, with_child, with_null, with_record, unmarked, emptied}
 use Rattle.store.specs.Sound.{lengths_right, store_bad}
@@ -121,9 +119,9 @@ insert_of t x z ps = by_verdict (insert_verdict t x z ps) t (insert_tried t x z 
 ------ the genesis insert
 
 -- no place is needed for a nullifier that is there already
-abbrev pub places_wanted : Found → ℕ
-places_wanted (At p) = 0
-places_wanted Nothing = 1
+abbrev pub places_wanted : Option ℕ → ℕ
+places_wanted (Some p) = 0
+places_wanted None = 1
 
 -- refused in the order 1, 2, 7, 8, 9
 unfoldable pub genesis_verdict : Store → Id → Id → List Id → Verdict
@@ -146,9 +144,9 @@ held_entered t c ns zero = t
 held_entered t c ns (suc n) = entered_if (held_entered t c ns n) (ns n) c
 
 -- nullifiers may repeat: one that is there keeps its place
-abbrev pub kept_at : Found → Store → ℕ → Id → (ℕ → ℕ) → ℕ → Store
-kept_at (At p) t c z ns k = with_record t c p ns k
-kept_at Nothing t c z ns k = kept_new t c z ns k
+abbrev pub kept_at : Option ℕ → Store → ℕ → Id → (ℕ → ℕ) → ℕ → Store
+kept_at (Some p) t c z ns k = with_record t c p ns k
+kept_at None t c z ns k = kept_new t c z ns k
 
 abbrev pub kept : Store → ℕ → Id → (ℕ → ℕ) → ℕ → Store
 kept t c z ns k = kept_at (place_of t z) t c z ns k

@@ -10,7 +10,6 @@ ghost use Rattle.dag.specs.Begun.{NullsRight};
 
 use crate::answers::DagRefusal;
 use crate::transaction::Transaction;
-use cells::Found;
 use naming::Located;
 use store::Parts;
 use store::limits::*;
@@ -21,7 +20,7 @@ pub const FEWEST_PARENTS: usize = 2;
 pub const MOST_PARENTS: usize = 8;
 
 // The place of a nullifier.
-pub fn place_of(parts: &Parts, z: &[u8; 32]) -> Found
+pub fn place_of(parts: &Parts, z: &[u8; 32]) -> Option<usize>
     requires { NullsRight (store_in parts.now) }
     ensures { result ≡ place_of (store_in parts.now) z.now }
 {
@@ -32,10 +31,7 @@ fn is_spent(parts: &Parts, z: &[u8; 32]) -> bool
     requires { NullsRight (store_in parts.now) }
     ensures { result ≡ is_spent (store_in parts.now) z.now }
 {
-    match place_of(parts, z) {
-        Found::At(_) => true,
-        Found::Nothing => false,
-    }
+    place_of(parts, z).is_some()
 }
 
 // How many places a genesis insert needs for its nullifier.
@@ -43,10 +39,7 @@ fn places_wanted(parts: &Parts, z: &[u8; 32]) -> usize
     requires { NullsRight (store_in parts.now) }
     ensures { result ≡ places_wanted (place_of (store_in parts.now) z.now) }
 {
-    match place_of(parts, z) {
-        Found::At(_) => 0,
-        Found::Nothing => 1,
-    }
+    usize::from(place_of(parts, z).is_none())
 }
 
 // Checks 7, 8 and 9: room for names, child entries and nullifiers. The call's ids are located on the way.

@@ -11,7 +11,6 @@ use crate::answers::DagRefusal;
 use crate::enter::{begin, enter_held, keep_new};
 use crate::judge::{judge_genesis, place_of};
 use crate::transaction::Transaction;
-use cells::Found;
 use naming::Located;
 use store::Parts;
 
@@ -27,8 +26,8 @@ fn apply_genesis(parts: &mut Parts, tx: &Transaction, at: Located)
     let names = &at.numbers[1..=tx.parents.len()];
     enter_held(parts, child, names);
     match place_of(parts, &tx.nullifier.0) {
-        Found::At(place) => parts.keep_record(child as usize, place, names),
-        Found::Nothing => keep_new(parts, &tx.nullifier.0, child, names),
+        Some(place) => parts.keep_record(child as usize, place, names),
+        None => keep_new(parts, &tx.nullifier.0, child, names),
     }
 }
 

@@ -1,10 +1,8 @@
 -- What naming leaves: all that the store held is as it was, and a new name is as never seen.
-use Rattle.std.specs.Prelude.{ℕ, zero, suc, ◌≤◌, ◌<◌, ◌≡◌, refl, Bool, true, false, []}
+use Rattle.std.specs.Prelude.{ℕ, zero, suc, ◌≤◌, ◌<◌, ◌≡◌, refl, Bool, true, false, [], Option, Some, None}
 use Rattle.std.proofs.Common.{ap, ◌∙◌, ⊎_elim, arith}
 use Rattle.cells.specs.Cells.{Id}
 use Rattle.cells.specs.Every.{last_or}
-use Rattle.cells.specs.declared.Found.{Found}
-use Rattle.cells.specs.declared.Found.TheVariants.{At, Nothing}
 use Rattle.store.specs.Limits.{name_limit, parent_limit, child_limit, null_limit, pending_limit, pair_limit}
 use Rattle.store.specs.Tables.{Store, names, entries, spent, pairs, waiting, accepted, used, marked, id_of, number_of, held, held_if, contains, last_entry, chain, children_of, with_name}
 use Rattle.store.specs.Facts.{Sound}
@@ -232,6 +230,6 @@ module _ (t : Store) (xs : ℕ → Id) (n : ℕ) (a : Nameable t xs n) where
   pub named_contains : (i : ℕ) → i < n → held (named t xs n) (number_at t xs i) ≡ contains t (xs i)
   named_contains i h = by (number_of t (xs i)) refl
     where
-      by : (f : Found) → number_of t (xs i) ≡ f → held (named t xs n) (number_at t xs i) ≡ held_if t f
-      by (At k) e = ap (held (named t xs n)) (number_old t xs i k e) ∙ named_held k (number_of_below t (xs i) k e)
-      by Nothing e = named_unheld (number_at t xs i) (omega (arith, number_new t xs i e)) (number_named t xs n a i h)
+      by : (f : Option ℕ) → number_of t (xs i) ≡ f → held (named t xs n) (number_at t xs i) ≡ held_if t f
+      by (Some k) e = ap (held (named t xs n)) (number_old t xs i k e) ∙ named_held k (number_of_below t (xs i) k e)
+      by None e = named_unheld (number_at t xs i) (omega (arith, number_new t xs i e)) (number_named t xs n a i h)

@@ -1,12 +1,10 @@
 -- The names after naming: how many there are, and the number of each id.
-use Rattle.std.specs.Prelude.{ℕ, zero, suc, ◌+◌, ◌-◌, ◌≤◌, ◌<◌, ◌≡◌, Bool, true, false}
+use Rattle.std.specs.Prelude.{ℕ, zero, suc, ◌+◌, ◌-◌, ◌≤◌, ◌<◌, ◌≡◌, Bool, true, false, Option, Some, None}
 use Rattle.std.proofs.Math.Path.{refl, ap}
 use Rattle.std.proofs.Common.{sym, ◌∙◌, true≢false, arith, add-one, ltb-false}
 use Rattle.cells.specs.Cells.{Id, IsId, same_id, first_where, pick_found, or_else}
 use Rattle.cells.specs.First.{first_cong, first_suc, first_none}
 use Rattle.cells.specs.Ids.{same_right}
-use Rattle.cells.specs.declared.Found.{Found}
-use Rattle.cells.specs.declared.Found.TheVariants.{At, Nothing}
 use Rattle.store.specs.Limits.{name_limit}
 use Rattle.store.specs.Tables.{Store, names, used, number_of, with_name}
 use Rattle.store.specs.Facts.{Sound}
@@ -54,47 +52,47 @@ room_here t xs n a e = omega (arith, a.room, (progress t xs n (nameable_less t x
 ------ the numbers
 
 -- the number of an id that the call names, from its first place in it
-abbrev pub new_number : Store → (ℕ → Id) → Found → Found
-new_number t xs (At j) = At (names t + fresh_count t xs j)
-new_number t xs Nothing = Nothing
+abbrev pub new_number : Store → (ℕ → Id) → Option ℕ → Option ℕ
+new_number t xs (Some j) = Some (names t + fresh_count t xs j)
+new_number t xs None = None
 
 -- the number of y once the first n ids are named: the one that it has, or that of its first place in the call
-abbrev pub number_after : Store → (ℕ → Id) → ℕ → Id → Found
+abbrev pub number_after : Store → (ℕ → Id) → ℕ → Id → Option ℕ
 number_after t xs n y = or_else (number_of t y) (new_number t xs (first_where (λ j. same_id (xs j) y) 0 n))
 
 module _ (t : Store) (xs : ℕ → Id) (n : ℕ) where
   -- one place more to look at
-  after_more : (y : Id) → number_after t xs (suc n) y ≡ or_else (number_after t xs n y) (new_number t xs (pick_found (same_id (xs n) y) (At n) Nothing))
+  after_more : (y : Id) → number_after t xs (suc n) y ≡ or_else (number_after t xs n y) (new_number t xs (pick_found (same_id (xs n) y) (Some n) None))
   after_more y =
       let z : 0 + n ≡ n = omega arith in
       ap (λ (m : ℕ). number_after t xs m y) (sym (add-one n))
-      ∙ ap (λ (f : Found). or_else (number_of t y) (new_number t xs f)) (first_suc (λ j. same_id (xs j) y) 0 n)
-      ∙ ap (λ (m : ℕ). or_else (number_of t y) (new_number t xs (or_else (first_where (λ j. same_id (xs j) y) 0 n) (pick_found (same_id (xs m) y) (At m) Nothing)))) z
-      ∙ by (number_of t y) (first_where (λ j. same_id (xs j) y) 0 n) (pick_found (same_id (xs n) y) (At n) Nothing)
+      ∙ ap (λ (f : Option ℕ). or_else (number_of t y) (new_number t xs f)) (first_suc (λ j. same_id (xs j) y) 0 n)
+      ∙ ap (λ (m : ℕ). or_else (number_of t y) (new_number t xs (or_else (first_where (λ j. same_id (xs j) y) 0 n) (pick_found (same_id (xs m) y) (Some m) None)))) z
+      ∙ by (number_of t y) (first_where (λ j. same_id (xs j) y) 0 n) (pick_found (same_id (xs n) y) (Some n) None)
     where
-      by : (f g e : Found) → or_else f (new_number t xs (or_else g e)) ≡ or_else (or_else f (new_number t xs g)) (new_number t xs e)
-      by (At k) g e = refl
-      by Nothing (At k) e = refl
-      by Nothing Nothing e = refl
+      by : (f g e : Option ℕ) → or_else f (new_number t xs (or_else g e)) ≡ or_else (or_else f (new_number t xs g)) (new_number t xs e)
+      by (Some k) g e = refl
+      by None (Some k) e = refl
+      by None None e = refl
 
   -- an id that is not new has a number already
   after_old : (y : Id) → is_new t xs n ≡ false → number_after t xs (suc n) y ≡ number_after t xs n y
   after_old y e = after_more y ∙ by (number_of t y) (first_where (λ j. same_id (xs j) y) 0 n) (same_id (xs n) y) refl refl refl
     where
-      by : (f g : Found) (b : Bool) → number_of t y ≡ f → first_where (λ j. same_id (xs j) y) 0 n ≡ g → same_id (xs n) y ≡ b
-          → or_else (or_else f (new_number t xs g)) (new_number t xs (pick_found b (At n) Nothing)) ≡ or_else f (new_number t xs g)
-      by (At k) g b p q r = refl
-      by Nothing (At k) b p q r = refl
-      by Nothing Nothing false p q r = refl
-      by Nothing Nothing true p q r =
-          let a : number_of t (xs n) ≡ Nothing = number_of_same t (xs n) y r ∙ p in
-          let b : first_where (λ j. same_id (xs j) (xs n)) 0 n ≡ Nothing =
+      by : (f g : Option ℕ) (b : Bool) → number_of t y ≡ f → first_where (λ j. same_id (xs j) y) 0 n ≡ g → same_id (xs n) y ≡ b
+          → or_else (or_else f (new_number t xs g)) (new_number t xs (pick_found b (Some n) None)) ≡ or_else f (new_number t xs g)
+      by (Some k) g b p q r = refl
+      by None (Some k) b p q r = refl
+      by None None false p q r = refl
+      by None None true p q r =
+          let a : number_of t (xs n) ≡ None = number_of_same t (xs n) y r ∙ p in
+          let b : first_where (λ j. same_id (xs j) (xs n)) 0 n ≡ None =
           first_cong (λ j. same_id (xs j) (xs n)) (λ j. same_id (xs j) y) 0 n (λ (j : ℕ) (h : 0 ≤ j) (k : j < 0 + n). same_right (xs n) y (xs j) r) ∙ q in
           absurd (true≢false (sym (new_is t xs n a b) ∙ e))
 
-else_nothing : (f : Found) → or_else f Nothing ≡ f
-else_nothing (At k) = refl
-else_nothing Nothing = refl
+else_nothing : (f : Option ℕ) → or_else f None ≡ f
+else_nothing (Some k) = refl
+else_nothing None = refl
 
 number_by : (t : Store) (xs : ℕ → Id) (n : ℕ) (b : Bool) → is_new t xs n ≡ b → Nameable t xs (suc n) → IsId (xs n) → (y : Id) → number_of (named t xs n) y ≡ number_after t xs n y
     → number_of (name_if b (named t xs n) (xs n)) y ≡ number_after t xs (suc n) y
@@ -102,12 +100,12 @@ number_by t xs n false e a d y r = r ∙ sym (after_old t xs n y e)
 number_by t xs n true e a d y r =
     let g = progress t xs n (nameable_less t xs n a) in
     name_number (named t xs n) (xs n) g.sound.lengths (room_here t xs n a e) d.bytes y
-    ∙ ap (λ (f : Found). or_else f (pick_found (same_id (xs n) y) (At (names (named t xs n))) Nothing)) r
-    ∙ ap (λ (m : ℕ). or_else (number_after t xs n y) (pick_found (same_id (xs n) y) (At m) Nothing)) g.count
+    ∙ ap (λ (f : Option ℕ). or_else f (pick_found (same_id (xs n) y) (Some (names (named t xs n))) None)) r
+    ∙ ap (λ (m : ℕ). or_else (number_after t xs n y) (pick_found (same_id (xs n) y) (Some m) None)) g.count
     ∙ ap (or_else (number_after t xs n y)) (by (same_id (xs n) y))
     ∙ sym (after_more t xs n y)
   where
-    by : (b : Bool) → pick_found b (At (names t + fresh_count t xs n)) Nothing ≡ new_number t xs (pick_found b (At n) Nothing)
+    by : (b : Bool) → pick_found b (Some (names t + fresh_count t xs n)) None ≡ new_number t xs (pick_found b (Some n) None)
     by true = refl
     by false = refl
 
@@ -137,22 +135,22 @@ module _ (t : Store) (xs : ℕ → Id) (n : ℕ) (a : Nameable t xs n) where
     named_number_of = number_all t xs n a d
 
     -- each of the call's ids has its number
-    pub named_number : (i : ℕ) → i < n → number_of (named t xs n) (xs i) ≡ At (number_at t xs i)
+    pub named_number : (i : ℕ) → i < n → number_of (named t xs n) (xs i) ≡ Some (number_at t xs i)
     unfolding number_at
     named_number i h =
-        named_number_of (xs i) ∙ ap (λ (g : Found). or_else (number_of t (xs i)) (new_number t xs g)) (first_place_of xs i n h) ∙ by (number_of t (xs i))
+        named_number_of (xs i) ∙ ap (λ (g : Option ℕ). or_else (number_of t (xs i)) (new_number t xs g)) (first_place_of xs i n h) ∙ by (number_of t (xs i))
       where
-        by : (f : Found) → or_else f (At (names t + fresh_count t xs (first_place xs i))) ≡ At (number_if f (names t + fresh_count t xs (first_place xs i)))
-        by (At k) = refl
-        by Nothing = refl
+        by : (f : Option ℕ) → or_else f (Some (names t + fresh_count t xs (first_place xs i))) ≡ Some (number_if f (names t + fresh_count t xs (first_place xs i)))
+        by (Some k) = refl
+        by None = refl
 
     -- an id that had a name keeps its number
-    pub named_old : (y : Id) (k : ℕ) → number_of t y ≡ At k → number_of (named t xs n) y ≡ At k
+    pub named_old : (y : Id) (k : ℕ) → number_of t y ≡ Some k → number_of (named t xs n) y ≡ Some k
     named_old y k e = named_number_of y ∙ rw e
 
     -- an id that is none of the call's keeps its number, or has none as before
     pub named_other : (y : Id) → ((j : ℕ) → j < n → same_id (xs j) y ≡ false) → number_of (named t xs n) y ≡ number_of t y
     named_other y f =
         named_number_of y
-        ∙ ap (λ (g : Found). or_else (number_of t y) (new_number t xs g)) (first_none (λ j. same_id (xs j) y) 0 n (λ (j : ℕ) (h : 0 ≤ j) (k : j < 0 + n). f j (omega arith)))
+        ∙ ap (λ (g : Option ℕ). or_else (number_of t y) (new_number t xs g)) (first_none (λ j. same_id (xs j) y) 0 n (λ (j : ℕ) (h : 0 ≤ j) (k : j < 0 + n). f j (omega arith)))
         ∙ else_nothing (number_of t y)

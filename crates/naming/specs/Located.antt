@@ -1,6 +1,6 @@
 -- What a search for a call's ids answers, and the laws by which the search goes from id to id.
 use Prim.Native.Nat.{ℕ, suc, ◌+◌, ◌≤◌, ◌<◌}
-use Rattle.std.specs.Prelude.{◌≡◌, refl, true, cond, not, length, get_or, set, replicate}
+use Rattle.std.specs.Prelude.{◌≡◌, refl, true, cond, not, length, get_or, set, replicate, Option, Some, None}
 use Rattle.std.proofs.Math.Path.{sym, ap}
 use Rattle.std.proofs.Common.{◌∙◌, arith, length-set, get_or-set_same}
 use Rattle.std.proofs.Math.Bool.{false, and-false}
@@ -10,8 +10,6 @@ use Rattle.bitset.specs.Sets.{count_below}
 use Rattle.cells.specs.Cells.{Id, same_id, first_where, first_id}
 use Rattle.cells.specs.Every.{last_or}
 use Rattle.cells.specs.First.{first_found}
-use Rattle.cells.specs.declared.Found.{Found}
-use Rattle.cells.specs.declared.Found.TheVariants.{At, Nothing}
 use Rattle.store.specs.Limits.{names_at}
 use Rattle.store.specs.Tables.{Store, names, number_of, is_named}
 use Rattle.naming.specs.Naming.{call_limit, is_new, fresh_count, number_at}
@@ -39,10 +37,10 @@ abbrev pub with_spot : Located → ℕ → Spot → Located
 with_spot r i s = record { numbers = set r.numbers i s.number; new = set r.new i s.new; fresh = r.fresh + cond s.new 1 0 }
 
 -- an id that stands at an earlier place has that one's number; else the number that it has, or the next free one
-unfoldable pub spot_of : Located → ℕ → Found → Found → Spot
-spot_of r free (At j) found = record { number = get_or r.numbers j 0; new = false }
-spot_of r free Nothing (At k) = record { number = k; new = false }
-spot_of r free Nothing Nothing = record { number = free; new = true }
+unfoldable pub spot_of : Located → ℕ → Option ℕ → Option ℕ → Spot
+spot_of r free (Some j) found = record { number = get_or r.numbers j 0; new = false }
+spot_of r free None (Some k) = record { number = k; new = false }
+spot_of r free None None = record { number = free; new = true }
 
 -- the answer has a place for each id of a call
 pub record Whole (r : Located) : Type 0 where
@@ -77,20 +75,20 @@ module _ (t : Store) (xs : ℕ → Id) where
         }
 
     -- what is found of the id at place i, at an earlier place or among the names, gives its number
-    spots : (before found : Found) → before ≡ first_where (λ j. same_id (xs j) (xs i)) 0 i → found ≡ number_of t (xs i) → Spots t xs i (spot_of r (names t + r.fresh) before found)
+    spots : (before found : Option ℕ) → before ≡ first_where (λ j. same_id (xs j) (xs i)) 0 i → found ≡ number_of t (xs i) → Spots t xs i (spot_of r (names t + r.fresh) before found)
     unfolding spot_of is_new
-    spots (At j) found e f =
+    spots (Some j) found e f =
         let d = first_found (λ j. same_id (xs j) (xs i)) 0 i j (sym e) in
         record { number = l.numbers j (omega (arith, d.below)) ∙ number_same t xs j i d.holds; new = rw (← e) (sym (and-false (not (is_named t (xs i))))) }
-    spots Nothing (At k) e f = record { number = sym (number_old t xs i k (sym f)); new = rw (← f) }
-    spots Nothing Nothing e f =
+    spots None (Some k) e f = record { number = sym (number_old t xs i k (sym f)); new = rw (← f) }
+    spots None None e f =
         record {
           number = ap (λ (m : ℕ). names t + m) l.fresh ∙ sym (number_new t xs i (sym f) ∙ ap (λ (m : ℕ). names t + fresh_count t xs m) (first_place_self xs i (sym e)));
           new = rw (← e, ← f);
         }
 
     -- the loop's step: the id at place i is looked up and its spot is kept
-    pub locates_step : (free k : ℕ) (place : Found) (s : Spot) (q : Located)
+    pub locates_step : (free k : ℕ) (place : Option ℕ) (s : Spot) (q : Located)
         → Whole r → i < call_limit → free ≡ names t → k ≡ i → place ≡ first_where (λ j. same_id (xs j) (xs i)) 0 i
         → s ≡ spot_of r (free + r.fresh) place (first_id t.keys t.rests names_at free (xs i)) → q ≡ with_spot r k s
         → Locates t xs (suc i) q

@@ -1,10 +1,8 @@
--- Naming and room, document 01: "a call's ids not yet named, counted once each, must fit the free names. They are named in
--- argument order once checks 7, 8 and 9 are passed."
-use Rattle.std.specs.Prelude.{ℕ, zero, suc, ◌+◌, ◌-◌, ◌≤◌, ◌≡◌, Bool, true, false, ◌&&◌, not, List, [], length, get_or, ltb}
+-- Naming and room: a call's ids that are not named yet, counted once each, must fit the free names. They are named in
+-- argument order once the checks of room are passed: of names, of child entries and of nullifiers.
+use Rattle.std.specs.Prelude.{ℕ, zero, suc, ◌+◌, ◌-◌, ◌≤◌, ◌≡◌, Bool, true, false, ◌&&◌, not, List, [], length, get_or, ltb, Option, Some, None}
 use Rattle.bitset.specs.Sets.{count_below}
 use Rattle.cells.specs.Cells.{Id, same_id, first_where, is_at, or_zero}
-use Rattle.cells.specs.declared.Found.{Found}
-use Rattle.cells.specs.declared.Found.TheVariants.{At, Nothing}
 use Rattle.store.specs.Limits.{name_limit, parent_limit, child_limit, null_limit, head_length, keys_length, rests_length}
 use Rattle.store.specs.Tables.{Store, names, entries, spent, number_of, is_named, with_name}
 
@@ -38,9 +36,9 @@ unfoldable pub named : Store → (ℕ → Id) → ℕ → Store
 named t xs zero = t
 named t xs (suc n) = name_if (is_new t xs n) (named t xs n) (xs n)
 
-abbrev pub number_if : Found → ℕ → ℕ
-number_if (At n) m = n
-number_if Nothing m = m
+abbrev pub number_if : Option ℕ → ℕ → ℕ
+number_if (Some n) m = n
+number_if None m = m
 
 -- the number of the id at place i once the call's ids are named: the one it has, or the next free one at its first place
 unfoldable pub number_at : Store → (ℕ → Id) → ℕ → ℕ

@@ -1,5 +1,5 @@
 -- Laws of the numbers that a call's ids have once they are named.
-use Rattle.std.specs.Prelude.{ℕ, suc, ◌+◌, ◌-◌, ◌≤◌, ◌<◌, ◌≡◌, refl, Bool, true, false}
+use Rattle.std.specs.Prelude.{ℕ, suc, ◌+◌, ◌-◌, ◌≤◌, ◌<◌, ◌≡◌, refl, Bool, true, false, Option, Some, None}
 use Rattle.std.proofs.Common.{sym, ap, ◌∙◌, true≢false, ⊎_elim, arith}
 use Rattle.bitset.specs.Sets.{count_below}
 use Rattle.bitset.specs.Cases.{lt_or_le}
@@ -7,8 +7,6 @@ use Rattle.bitset.specs.Counts.{count_le, count_add}
 use Rattle.cells.specs.Cells.{Id, same_id, first_where, or_zero, id_at}
 use Rattle.cells.specs.First.{Lowest, first_found, first_is, first_none, first_nothing}
 use Rattle.cells.specs.Ids.{same_refl, same_right, first_id_same}
-use Rattle.cells.specs.declared.Found.{Found}
-use Rattle.cells.specs.declared.Found.TheVariants.{At, Nothing}
 use Rattle.store.specs.Limits.{names_at}
 use Rattle.store.specs.Tables.{Store, names, number_of}
 use Rattle.naming.specs.Naming.{first_place, is_new, fresh_count, number_at}
@@ -44,9 +42,9 @@ fresh_mono t xs m n h = count_further (is_new t xs) m n h
 ------ the first place of an id in the call
 
 module _ (xs : ℕ → Id) (i : ℕ) where
-  place_by : (f : Found) → first_where (λ j. same_id (xs j) (xs i)) 0 (suc i) ≡ f → Lowest (λ j. same_id (xs j) (xs i)) 0 (suc i) (or_zero f)
-  place_by (At k) e = first_found (λ j. same_id (xs j) (xs i)) 0 (suc i) k e
-  place_by Nothing e =
+  place_by : (f : Option ℕ) → first_where (λ j. same_id (xs j) (xs i)) 0 (suc i) ≡ f → Lowest (λ j. same_id (xs j) (xs i)) 0 (suc i) (or_zero f)
+  place_by (Some k) e = first_found (λ j. same_id (xs j) (xs i)) 0 (suc i) k e
+  place_by None e =
       absurd (true≢false (sym (same_refl (xs i)) ∙ first_nothing (λ j. same_id (xs j) (xs i)) 0 (suc i) i e (omega arith) (omega arith)))
 
   -- it has the id, and none before it has
@@ -58,12 +56,12 @@ module _ (xs : ℕ → Id) (i : ℕ) where
   first_place_is k l = ap or_zero (first_is (λ j. same_id (xs j) (xs i)) 0 (suc i) k l)
 
   -- among more places it is the same
-  pub first_place_of : (n : ℕ) → i < n → first_where (λ j. same_id (xs j) (xs i)) 0 n ≡ At (first_place xs i)
+  pub first_place_of : (n : ℕ) → i < n → first_where (λ j. same_id (xs j) (xs i)) 0 n ≡ Some (first_place xs i)
   first_place_of n h =
       first_is (λ j. same_id (xs j) (xs i)) 0 n (first_place xs i)
       (record { above = first_place_lem.above; below = omega (arith, first_place_lem.below); holds = first_place_lem.holds; alone = first_place_lem.alone })
 
-  pub first_place_self : first_where (λ j. same_id (xs j) (xs i)) 0 i ≡ Nothing → first_place xs i ≡ i
+  pub first_place_self : first_where (λ j. same_id (xs j) (xs i)) 0 i ≡ None → first_place xs i ≡ i
   first_place_self e =
       first_place_is i
       (record {
@@ -93,17 +91,17 @@ pub number_of_same : (t : Store) (x y : Id) → same_id x y ≡ true → number_
 number_of_same t x y e = first_id_same t.keys t.rests names_at (names t) x y e
 
 -- a number that an id has is below the count of names
-pub number_of_below : (t : Store) (x : Id) (k : ℕ) → number_of t x ≡ At k → k < names t
+pub number_of_below : (t : Store) (x : Id) (k : ℕ) → number_of t x ≡ Some k → k < names t
 number_of_below t x k e = omega (arith, (first_found (λ i. same_id (id_at t.keys t.rests (names_at + i)) x) 0 (names t) k e).below)
 
 module _ (t : Store) (xs : ℕ → Id) where
   -- an id that has a name keeps its number
-  pub number_old : (i k : ℕ) → number_of t (xs i) ≡ At k → number_at t xs i ≡ k
+  pub number_old : (i k : ℕ) → number_of t (xs i) ≡ Some k → number_at t xs i ≡ k
   unfolding number_at
   number_old i k e = rw e
 
   -- another has the next free number at its first place
-  pub number_new : (i : ℕ) → number_of t (xs i) ≡ Nothing → number_at t xs i ≡ names t + fresh_count t xs (first_place xs i)
+  pub number_new : (i : ℕ) → number_of t (xs i) ≡ None → number_at t xs i ≡ names t + fresh_count t xs (first_place xs i)
   unfolding number_at
   number_new i e = rw e
 
@@ -113,11 +111,11 @@ module _ (t : Store) (xs : ℕ → Id) where
   number_same i j e = rw (number_of_same t (xs i) (xs j) e, first_place_same xs i j e)
 
   -- an id without a name, at no earlier place, is new
-  pub new_is : (i : ℕ) → number_of t (xs i) ≡ Nothing → first_where (λ j. same_id (xs j) (xs i)) 0 i ≡ Nothing → is_new t xs i ≡ true
+  pub new_is : (i : ℕ) → number_of t (xs i) ≡ None → first_where (λ j. same_id (xs j) (xs i)) 0 i ≡ None → is_new t xs i ≡ true
   unfolding is_new
   new_is i e f = rw (e, f)
 
-  new_first : (i : ℕ) → number_of t (xs i) ≡ Nothing → is_new t xs (first_place xs i) ≡ true
+  new_first : (i : ℕ) → number_of t (xs i) ≡ None → is_new t xs (first_place xs i) ≡ true
   new_first i e =
       let l = first_place_lem xs i in
       new_is (first_place xs i)
@@ -125,9 +123,9 @@ module _ (t : Store) (xs : ℕ → Id) where
       (first_none (λ j. same_id (xs j) (xs (first_place xs i))) 0 (first_place xs i)
       (λ (j : ℕ) (p : 0 ≤ j) (q : j < 0 + first_place xs i). same_right (xs (first_place xs i)) (xs i) (xs j) l.holds ∙ l.alone j p (omega arith)))
 
-  below_by : (i n : ℕ) (f : Found) → number_of t (xs i) ≡ f → i < n → number_at t xs i < names t + fresh_count t xs n
-  below_by i n (At k) e h = omega (arith, number_old i k e, number_of_below t (xs i) k e)
-  below_by i n Nothing e h =
+  below_by : (i n : ℕ) (f : Option ℕ) → number_of t (xs i) ≡ f → i < n → number_at t xs i < names t + fresh_count t xs n
+  below_by i n (Some k) e h = omega (arith, number_old i k e, number_of_below t (xs i) k e)
+  below_by i n None e h =
       omega
       (arith, number_new i e, fresh_new t xs (first_place xs i) (new_first i e), fresh_mono t xs (suc (first_place xs i)) n (omega (arith, (first_place_lem xs i).below)))
 

@@ -1,5 +1,5 @@
 // Where a call's ids are. Each id is looked up once; the rest of a call reads the numbers.
-ghost use Rattle.std.specs.Prelude.{◌≡◌, ℕ, ◌+◌, ◌^◌, ◌≤◌, ◌<◌};
+ghost use Rattle.std.specs.Prelude.{◌≡◌, Some, ℕ, ◌+◌, ◌^◌, ◌≤◌, ◌<◌};
 ghost use Rattle.cells.specs.Cells.{same_id, first_where};
 ghost use Rattle.store.specs.Tables.{names, number_of};
 ghost use Rattle.store.specs.Parts.{store_in};
@@ -8,7 +8,6 @@ ghost use Rattle.naming.specs.Calls.{ids, id_count};
 ghost use Rattle.naming.specs.Located.{Locates, nowhere, with_spot, spot_of};
 
 use crate::called::Called;
-use cells::Found;
 use store::Parts;
 use store::limits::*;
 
@@ -60,34 +59,34 @@ impl Located {
 }
 
 // The lowest earlier place of the call that has the id at place i.
-fn earlier(call: &Called, i: usize) -> Found
+fn earlier(call: &Called, i: usize) -> Option<usize>
     requires { i < id_count call.now }
     ensures { result ≡ first_where (λ j. same_id (ids call.now j) (ids call.now i)) 0 i }
 {
     for j in 0..i {
         if cells::same_id(call.get(j), call.get(i)) {
-            return Found::At(j);
+            return Some(j);
         }
     }
-    Found::Nothing
+    None
 }
 
 // Where one id is: at the number of its earlier place, or of its name, or at the next free one.
-fn locate_one(parts: &Parts, x: &[u8; 32], place: Found, at: Located) -> Spot
-    requires { (NamesRight (store_in parts.now) × (names (store_in parts.now) + at.fresh < 2 ^ 16)) × ((j : ℕ) → place ≡ Found.At j → j < call_limit) }
+fn locate_one(parts: &Parts, x: &[u8; 32], place: Option<usize>, at: Located) -> Spot
+    requires { (NamesRight (store_in parts.now) × (names (store_in parts.now) + at.fresh < 2 ^ 16)) × ((j : ℕ) → place ≡ Some j → j < call_limit) }
     ensures { result ≡ spot_of at (names (store_in parts.now) + at.fresh) place (number_of (store_in parts.now) x.now) }
 {
     match place {
-        Found::At(j) => Spot {
+        Some(j) => Spot {
             number: at.numbers[j],
             new: false,
         },
-        Found::Nothing => match number_of(parts, x) {
-            Found::At(n) => Spot {
+        None => match number_of(parts, x) {
+            Some(n) => Spot {
                 number: n as u16,
                 new: false,
             },
-            Found::Nothing => Spot {
+            None => Spot {
                 number: (parts.names() as usize + at.fresh) as u16,
                 new: true,
             },
@@ -96,7 +95,7 @@ fn locate_one(parts: &Parts, x: &[u8; 32], place: Found, at: Located) -> Spot
 }
 
 // The number of the id x: of equal names the lowest counts.
-pub fn number_of(parts: &Parts, x: &[u8; 32]) -> Found
+pub fn number_of(parts: &Parts, x: &[u8; 32]) -> Option<usize>
     requires { NamesRight (store_in parts.now) }
     ensures { result ≡ number_of (store_in parts.now) x.now }
 {

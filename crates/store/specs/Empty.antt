@@ -1,11 +1,10 @@
 -- An emptied store: whatever stood in its parts, if they are as long as stated it is not bad, it is marked, and nothing is in it.
-use Rattle.std.specs.Prelude.{ℕ, ◌+◌, ◌<◌, ◌≡◌, true, get_or}
+use Rattle.std.specs.Prelude.{ℕ, ◌+◌, ◌<◌, ◌≡◌, true, get_or, None}
 use Rattle.std.proofs.Math.Path.{refl}
 use Rattle.std.proofs.Common.{arith, length-set, get_or-set_same}
 use Rattle.std.proofs.Math.ListN.{length}
 use Rattle.cells.specs.Cells.{Id, first_where, row_put}
 use Rattle.cells.specs.Rows.{put_length, put_at}
-use Rattle.cells.specs.declared.Found.TheVariants.{Nothing}
 use Rattle.store.specs.declared.sound.Counts.{Counts}
 use Rattle.store.specs.Tables.{Store, used, marked, number_of, place_of, emptied}
 use Rattle.store.specs.Sound.{nodes_columns, links_columns}
@@ -68,10 +67,10 @@ module _ (t : Store) (l : Lengths t) where
       rw (get_or-set_same (row_put t.head 0 (λ j. 0) 6) 6 1 0 h)
 
   -- no id has a name, and no nullifier is there
-  pub emptied_number : (x : Id) → number_of (emptied t) x ≡ Nothing
+  pub emptied_number : (x : Id) → number_of (emptied t) x ≡ None
   unfolding first_where
   emptied_number x = rw (counted (emptied t) none_used emptied_used).names_are
 
-  pub emptied_place : (z : Id) → place_of (emptied t) z ≡ Nothing
+  pub emptied_place : (z : Id) → place_of (emptied t) z ≡ None
   unfolding first_where
   emptied_place z = rw (counted (emptied t) none_used emptied_used).spent_are

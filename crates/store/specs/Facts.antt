@@ -1,7 +1,8 @@
 -- What `sound` tells, cell by cell, and back.
 use Rattle.std.specs.Prelude.{ℕ, zero, suc, ◌+◌, ◌*◌, ◌≤◌, ◌<◌, ◌≡◌, refl, Bool, true, ◌&&◌, List, [], ◌∷◌, length, get_or, eqb, leb, ltb}
 use Rattle.std.proofs.Common.{arith, ltb-true, lt-ltb, leb-true, le-leb, eqb-true, eq-eqb}
-use Rattle.cells.specs.Every.{and_left, and_right, every_at, every_all}
+use Rattle.std.proofs.lemmas.Bool.{and_parts}
+use Rattle.cells.specs.Every.{every_at, every_all}
 use Rattle.store.specs.Limits.{name_limit, parent_limit, child_limit, null_limit, pending_limit, pair_limit, request_limit, curvature_top, head_length, keys_length, rests_length, nodes_length, links_length, nonces_length, tips_length}
 use Rattle.store.specs.Tables.{Store, names, entries, spent, pairs, waiting, accepted, used, place_cell, parent_count, parent_at, last_entry, child_at, previous, depth_cell, last_pair, partner, curvature_cell, previous_pair, accepted_as, requests, wait_name, wait_count, wait_parent}
 use Rattle.store.specs.Sound.{lengths_right, head_right, Column, nodes_columns, links_columns, column_right, all_right, sound, Within}
@@ -31,19 +32,19 @@ lengths_known t e =
     let links = eqb (length t.links) links_length in
     let nonces = eqb (length t.nonces) nonces_length in
     let tips = eqb (length t.tips) tips_length in
-    let e6 = and_left (head && keys && rests && nodes && links && nonces) tips e in
-    let e5 = and_left (head && keys && rests && nodes && links) nonces e6 in
-    let e4 = and_left (head && keys && rests && nodes) links e5 in
-    let e3 = and_left (head && keys && rests) nodes e4 in
-    let e2 = and_left (head && keys) rests e3 in
+    let e6 = (and_parts (head && keys && rests && nodes && links && nonces) tips e).0 in
+    let e5 = (and_parts (head && keys && rests && nodes && links) nonces e6).0 in
+    let e4 = (and_parts (head && keys && rests && nodes) links e5).0 in
+    let e3 = (and_parts (head && keys && rests) nodes e4).0 in
+    let e2 = (and_parts (head && keys) rests e3).0 in
     record {
-      head_long = eqb-true _ _ (and_left head keys e2);
-      keys_long = eqb-true _ _ (and_right head keys e2);
-      rests_long = eqb-true _ _ (and_right (head && keys) rests e3);
-      nodes_long = eqb-true _ _ (and_right (head && keys && rests) nodes e4);
-      links_long = eqb-true _ _ (and_right (head && keys && rests && nodes) links e5);
-      nonces_long = eqb-true _ _ (and_right (head && keys && rests && nodes && links) nonces e6);
-      tips_long = eqb-true _ _ (and_right (head && keys && rests && nodes && links && nonces) tips e);
+      head_long = eqb-true _ _ (and_parts head keys e2).0;
+      keys_long = eqb-true _ _ (and_parts head keys e2).1;
+      rests_long = eqb-true _ _ (and_parts (head && keys) rests e3).1;
+      nodes_long = eqb-true _ _ (and_parts (head && keys && rests) nodes e4).1;
+      links_long = eqb-true _ _ (and_parts (head && keys && rests && nodes) links e5).1;
+      nonces_long = eqb-true _ _ (and_parts (head && keys && rests && nodes && links) nonces e6).1;
+      tips_long = eqb-true _ _ (and_parts (head && keys && rests && nodes && links && nonces) tips e).1;
     }
 
 pub lengths_true : (t : Store) → Lengths t → lengths_right t ≡ true
@@ -68,17 +69,17 @@ within_known u e =
     let pairs = leb u.pairs pair_limit in
     let waiting = leb u.waiting pending_limit in
     let accepted = leb u.accepted name_limit in
-    let e5 = and_left (names && entries && spent && pairs && waiting) accepted e in
-    let e4 = and_left (names && entries && spent && pairs) waiting e5 in
-    let e3 = and_left (names && entries && spent) pairs e4 in
-    let e2 = and_left (names && entries) spent e3 in
+    let e5 = (and_parts (names && entries && spent && pairs && waiting) accepted e).0 in
+    let e4 = (and_parts (names && entries && spent && pairs) waiting e5).0 in
+    let e3 = (and_parts (names && entries && spent) pairs e4).0 in
+    let e2 = (and_parts (names && entries) spent e3).0 in
     record {
-      few_names = leb-true _ _ (and_left names entries e2);
-      few_entries = leb-true _ _ (and_right names entries e2);
-      few_spent = leb-true _ _ (and_right (names && entries) spent e3);
-      few_pairs = leb-true _ _ (and_right (names && entries && spent) pairs e4);
-      few_waiting = leb-true _ _ (and_right (names && entries && spent && pairs) waiting e5);
-      few_accepted = leb-true _ _ (and_right (names && entries && spent && pairs && waiting) accepted e);
+      few_names = leb-true _ _ (and_parts names entries e2).0;
+      few_entries = leb-true _ _ (and_parts names entries e2).1;
+      few_spent = leb-true _ _ (and_parts (names && entries) spent e3).1;
+      few_pairs = leb-true _ _ (and_parts (names && entries && spent) pairs e4).1;
+      few_waiting = leb-true _ _ (and_parts (names && entries && spent && pairs) waiting e5).1;
+      few_accepted = leb-true _ _ (and_parts (names && entries && spent && pairs && waiting) accepted e).1;
     }
 
 pub within_true : (u : Counts) → Within u → head_right u ≡ true
@@ -122,8 +123,8 @@ column_true s c f = every_all (λ i. ltb (get_or s (c.start + i) 0) (c.bound i))
 pub all_known : (s : List ℕ) (cs : List Column) → all_right s cs ≡ true → AllFit s cs
 unfolding all_right
 all_known s [] e k = λ (i : ℕ) (h : i < 0). absurd (omega arith)
-all_known s (c ∷ cs) e zero = column_known s c (and_left (column_right s c) (all_right s cs) e)
-all_known s (c ∷ cs) e (suc k) = all_known s cs (and_right (column_right s c) (all_right s cs) e) k
+all_known s (c ∷ cs) e zero = column_known s c (and_parts (column_right s c) (all_right s cs) e).0
+all_known s (c ∷ cs) e (suc k) = all_known s cs (and_parts (column_right s c) (all_right s cs) e).1 k
 
 pub all_true : (s : List ℕ) (cs : List Column) → AllFit s cs → all_right s cs ≡ true
 unfolding all_right
@@ -146,13 +147,13 @@ sound_known t e =
     let counts = head_right (used t) in
     let nodes = all_right t.nodes (nodes_columns (used t)) in
     let links = all_right t.links (links_columns (used t)) in
-    let e3 = and_left (lengths && counts && nodes) links e in
-    let e2 = and_left (lengths && counts) nodes e3 in
+    let e3 = (and_parts (lengths && counts && nodes) links e).0 in
+    let e2 = (and_parts (lengths && counts) nodes e3).0 in
     record {
-      lengths = lengths_known t (and_left lengths counts e2);
-      within = within_known (used t) (and_right lengths counts e2);
-      nodes_fit = all_known t.nodes (nodes_columns (used t)) (and_right (lengths && counts) nodes e3);
-      links_fit = all_known t.links (links_columns (used t)) (and_right (lengths && counts && nodes) links e);
+      lengths = lengths_known t (and_parts lengths counts e2).0;
+      within = within_known (used t) (and_parts lengths counts e2).1;
+      nodes_fit = all_known t.nodes (nodes_columns (used t)) (and_parts (lengths && counts) nodes e3).1;
+      links_fit = all_known t.links (links_columns (used t)) (and_parts (lengths && counts && nodes) links e).1;
     }
 
 pub sound_true : (t : Store) → Sound t → sound t ≡ true

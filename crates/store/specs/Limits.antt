@@ -1,4 +1,4 @@
--- The numbers of document 01 by name, and the length and the columns of each lent part. The code has the same names in
+-- The limits of a store by name, and the length and the columns of each lent part. The code has the same names in
 -- src/limits.rt; a larger circle changes these two files alone.
 use Rattle.std.specs.Prelude.{ℕ, ◌+◌, ◌*◌, ◌/◌}
 

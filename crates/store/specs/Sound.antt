@@ -1,5 +1,5 @@
--- StoreBad: document 01 gives it "exactly when a lent part has another length than stated in docs/, a count exceeds its
--- limit, an index is not below its count, a cached depth exceeds the limit of named ids, or a cached curvature its range".
+-- StoreBad: the store is bad exactly when a lent part has another length than its own (docs/STORE.md), a count exceeds its
+-- limit, an index is not below its count, a cached depth exceeds the limit of named ids, or a cached curvature its range.
 use Rattle.std.specs.Prelude.{ℕ, ◌+◌, ◌*◌, ◌≤◌, Bool, true, ◌&&◌, not, List, [], ◌∷◌, length, get_or, eqb, leb, ltb}
 use Rattle.cells.specs.Cells.{every}
 use Rattle.store.specs.Limits.{name_limit, parent_limit, child_limit, null_limit, pending_limit, pair_limit, request_limit, curvature_top, head_length, keys_length, rests_length, nodes_length, links_length, nonces_length, tips_length, parents_at, counts_at, depths_at, requests_at, accepted_at, children_at, partners_at, wait_names_at, wait_counts_at, wait_parents_at, wait_missing_at, wait_asked_at, places_at, lasts_at, last_pairs_at, previous_at, previous_pairs_at, curvatures_at}

@@ -1,8 +1,6 @@
 -- The store's parts as tables: what each cell means (views), and what each step of a call changes (updates).
-use Rattle.std.specs.Prelude.{ℕ, zero, suc, ◌+◌, ◌*◌, Bool, false, List, [], ◌∷◌, ◌++◌, get_or, set, eqb, ltb}
+use Rattle.std.specs.Prelude.{ℕ, zero, suc, ◌+◌, ◌*◌, Bool, false, List, [], ◌∷◌, ◌++◌, get_or, set, eqb, ltb, Option, Some, None}
 use Rattle.cells.specs.Cells.{Id, id_at, first_id, is_at, row_put, keys_put, rests_put}
-use Rattle.cells.specs.declared.Found.{Found}
-use Rattle.cells.specs.declared.Found.TheVariants.{At, Nothing}
 use Rattle.bitset.specs.Sets.{member, without}
 use Rattle.store.specs.declared.sound.Counts.{Counts}
 use Rattle.store.specs.Limits.{parent_limit, names_at, nulls_at, wait_nulls_at, parents_at, counts_at, depths_at, requests_at, accepted_at, children_at, partners_at, wait_names_at, wait_counts_at, wait_parents_at, wait_missing_at, wait_asked_at, places_at, lasts_at, last_pairs_at, previous_at, previous_pairs_at, curvatures_at}
@@ -72,7 +70,7 @@ abbrev pub id_of : Store → ℕ → Id
 id_of t n = id_at t.keys t.rests (names_at + n)
 
 -- of equal names the lowest counts
-abbrev pub number_of : Store → Id → Found
+abbrev pub number_of : Store → Id → Option ℕ
 number_of t x = first_id t.keys t.rests names_at (names t) x
 
 abbrev pub is_named : Store → Id → Bool
@@ -84,7 +82,7 @@ is_named t x = is_at (number_of t x)
 abbrev pub null_of : Store → ℕ → Id
 null_of t p = id_at t.keys t.rests (nulls_at + p)
 
-abbrev pub place_of : Store → Id → Found
+abbrev pub place_of : Store → Id → Option ℕ
 place_of t z = first_id t.keys t.rests nulls_at (spent t) z
 
 abbrev pub is_spent : Store → Id → Bool
@@ -100,9 +98,9 @@ place_cell t n = get_or t.links (places_at + n) 0
 abbrev pub held : Store → ℕ → Bool
 held t n = ltb 0 (place_cell t n)
 
-abbrev pub held_if : Store → Found → Bool
-held_if t (At n) = held t n
-held_if t Nothing = false
+abbrev pub held_if : Store → Option ℕ → Bool
+held_if t (Some n) = held t n
+held_if t None = false
 
 -- the store holds a record of x
 abbrev pub contains : Store → Id → Bool

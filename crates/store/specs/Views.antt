@@ -1,5 +1,5 @@
 -- What each update changes in each view, and that it changes no other.
-use Rattle.std.specs.Prelude.{ℕ, ◌+◌, ◌*◌, ◌≤◌, ◌<◌, ◌≡◌, ◌≢◌, Bool, true, false, List, set, eqb, ltb}
+use Rattle.std.specs.Prelude.{ℕ, ◌+◌, ◌*◌, ◌≤◌, ◌<◌, ◌≡◌, ◌≢◌, Bool, true, false, List, set, eqb, ltb, Some, None}
 use Rattle.std.proofs.Math.Path.{refl}
 use Rattle.std.proofs.Common.{ap, ltb-true, ltb-false}
 use native.Mathlib.Omega.{arith}
@@ -9,7 +9,6 @@ use Rattle.std.proofs.lemmas.Bool.{eqb-false}
 use Rattle.cells.specs.Cells.{Id, Bytes, IsId, same_id, pick_found, or_else, row_put}
 use Rattle.cells.specs.Rows.{put_length, put_at, put_other}
 use Rattle.cells.specs.Ids.{put_id_here, put_id_other, first_id_other, first_id_more}
-use Rattle.cells.specs.declared.Found.TheVariants.{At, Nothing}
 use Rattle.bitset.specs.Sets.{member}
 use Rattle.bitset.specs.Words.{without_same, without_other}
 use Rattle.store.specs.declared.sound.Counts.{Counts}
@@ -229,7 +228,7 @@ module _ (t : Store) (x : Id) (l : Lengths t) (room : names t < name_limit) wher
       }
 
   -- of equal names the lowest counts: x gets the new name if it had none
-  pub name_number : Bytes x → (y : Id) → number_of (with_name t x) y ≡ or_else (number_of t y) (pick_found (same_id x y) (At (names t)) Nothing)
+  pub name_number : Bytes x → (y : Id) → number_of (with_name t x) y ≡ or_else (number_of t y) (pick_found (same_id x y) (Some (names t)) None)
   unfolding with_name
   name_number b y =
       let e : get_or (set t.head 0 (names t + 1)) 0 0 ≡ names t + 1 = get_or-set_same t.head 0 (names t + 1) 0 (omega (arith, l.head_long)) in
@@ -446,7 +445,7 @@ module _ (t : Store) (z : Id) (l : Lengths t) (room : spent t < null_limit) wher
   null_null_other p d = put_id_other t.keys t.rests (nulls_at + spent t) z (nulls_at + p) (omega arith)
 
   -- of equal nullifiers the lowest counts: z gets the new place if it had none
-  pub null_place : Bytes z → (y : Id) → place_of (with_null t z) y ≡ or_else (place_of t y) (pick_found (same_id z y) (At (spent t)) Nothing)
+  pub null_place : Bytes z → (y : Id) → place_of (with_null t z) y ≡ or_else (place_of t y) (pick_found (same_id z y) (Some (spent t)) None)
   unfolding with_null
   null_place b y =
       let e : get_or (set t.head 2 (spent t + 1)) 2 0 ≡ spent t + 1 = get_or-set_same t.head 2 (spent t + 1) 0 (omega (arith, l.head_long)) in

@@ -1,4 +1,4 @@
-// The numbers of document 01 by name, and the length and the columns of each lent part. specs/Limits.antt has the
+// The limits of a store by name, and the length and the columns of each lent part. specs/Limits.antt has the
 // same; a larger circle changes these two files alone.
 
 // Named ids, parents in any record, child entries, nullifiers, pending records, cached pairs.

@@ -84,16 +84,16 @@ fn nodes_right(nodes: &[u16], u: Counts) -> bool
 {
     let parents = PARENT_LIMIT as u16;
     let names = u.names as u16;
-    cells::all_below16(nodes, COUNTS_AT, u.names, parents + 1)
-        & cells::all_below16(nodes, REQUESTS_AT, u.names, REQUEST_LIMIT as u16 + 1)
-        & cells::all_below16(nodes, WAIT_COUNTS_AT, u.waiting, parents + 1)
-        & cells::all_below16(nodes, DEPTHS_AT, u.names, NAME_LIMIT as u16 + 2)
-        & cells::all_below16(nodes, PARENTS_AT, u.names * PARENT_LIMIT, names)
-        & cells::all_below16(nodes, ACCEPTED_AT, u.accepted, names)
-        & cells::all_below16(nodes, CHILDREN_AT, u.entries, names)
-        & cells::all_below16(nodes, PARTNERS_AT, u.pairs, names)
-        & cells::all_below16(nodes, WAIT_NAMES_AT, u.waiting, names)
-        & cells::all_below16(nodes, WAIT_PARENTS_AT, u.waiting * PARENT_LIMIT, names)
+    cells::all_below(nodes, COUNTS_AT, u.names, parents + 1)
+        & cells::all_below(nodes, REQUESTS_AT, u.names, REQUEST_LIMIT as u16 + 1)
+        & cells::all_below(nodes, WAIT_COUNTS_AT, u.waiting, parents + 1)
+        & cells::all_below(nodes, DEPTHS_AT, u.names, NAME_LIMIT as u16 + 2)
+        & cells::all_below(nodes, PARENTS_AT, u.names * PARENT_LIMIT, names)
+        & cells::all_below(nodes, ACCEPTED_AT, u.accepted, names)
+        & cells::all_below(nodes, CHILDREN_AT, u.entries, names)
+        & cells::all_below(nodes, PARTNERS_AT, u.pairs, names)
+        & cells::all_below(nodes, WAIT_NAMES_AT, u.waiting, names)
+        & cells::all_below(nodes, WAIT_PARENTS_AT, u.waiting * PARENT_LIMIT, names)
 }
 
 // Whether the columns of links are right: places below their counts, with 1 added, and curvatures in their range.
@@ -101,10 +101,10 @@ fn links_right(links: &[u32], u: Counts) -> bool
     requires { (length links.now ≡ links_length) × Within u }
     ensures { result ≡ all_right links.now (links_columns u) }
 {
-    cells::all_below32(links, PLACES_AT, u.names, u.spent as u32 + 1)
-        & cells::all_below32(links, LASTS_AT, u.names, u.entries as u32 + 1)
-        & cells::all_below32(links, LAST_PAIRS_AT, u.names, u.pairs as u32 + 1)
-        & cells::all_falling32(links, PREVIOUS_AT, u.entries)
-        & cells::all_falling32(links, PREVIOUS_PAIRS_AT, u.pairs)
-        & cells::all_below32(links, CURVATURES_AT, u.pairs, CURVATURE_TOP as u32 + 1)
+    cells::all_below(links, PLACES_AT, u.names, u.spent as u32 + 1)
+        & cells::all_below(links, LASTS_AT, u.names, u.entries as u32 + 1)
+        & cells::all_below(links, LAST_PAIRS_AT, u.names, u.pairs as u32 + 1)
+        & cells::all_falling(links, PREVIOUS_AT, u.entries)
+        & cells::all_falling(links, PREVIOUS_PAIRS_AT, u.pairs)
+        & cells::all_below(links, CURVATURES_AT, u.pairs, CURVATURE_TOP as u32 + 1)
 }

@@ -16,7 +16,7 @@ impl Parts<'_> {
     }
 
     // How many child entries there are.
-    pub fn entries(&self) -> u32
+    pub(crate) fn entries(&self) -> u32
         ensures { result ≡ entries (store_in self.now) }
     {
         cells::at(self.head, ENTRIES)
@@ -38,7 +38,7 @@ impl Parts<'_> {
     }
 
     // The last child entry of name n, and 1 more; 0 where it has none.
-    pub fn last_entry(&self, n: usize) -> u32
+    pub(crate) fn last_entry(&self, n: usize) -> u32
         requires { n < name_limit }
         ensures { result ≡ last_entry (store_in self.now) n }
     {

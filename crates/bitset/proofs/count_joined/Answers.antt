@@ -1,41 +1,22 @@
-use mathlib.Core.Path.{refl}
-use native.Mathlib.Omega.{arith}
-use Rattle.bitset.specs.Sets.{count_below}
-use Rattle.bitset.specs.Counts.{counted_le, gained_le}
-use Rattle.bitset.specs.Words.{word_either}
-use Rattle.bitset.proofs.Tallies.{joined_counted}
+-- The words that both sets have, then those that the longer one has alone.
+use Rattle.std.proofs.Common.{◌≡◌, ◌+◌, ◌*◌, refl, ◌<◌, ◌≤◌, ◌⊎◌, length, get_or, inl, inr, rules, arith}
+use Rattle.std.specs.Prelude.{bit_or}
+use Rattle.bitset.specs.Sets.{in_either}
+use Rattle.bitset.specs.Words.{either_at}
+use Rattle.bitset.proofs.Tallies.{longer_at, joined_counted}
 use Rattle.bitset.proofs.count_joined.Goals as goal
-
-pub loop-i-init : goal.loop-i-init
-unfolding count_below
-loop-i-init c = (omega arith, refl)
-
-pub overflow_add-total : goal.overflow_add-total
-overflow_add-total c =
-    let loop = c.loop-i in
-    omega (arith, counted_le _ _ _ c.ones-total.ensures, counted_le _ _ _ loop.invariant.1)
-
-pub loop-i-preserved : goal.loop-i-preserved
-loop-i-preserved c =
-    let loop = c.loop-i in
-    let args = c.args in
-    (omega arith, omega (arith, word_either args.a.now args.b.now loop.i, c.ones-total.ensures))
-
-pub overflow_add-result : goal.overflow_add-result
-overflow_add-result c =
-    let loop = c.loop-i in
-    omega (arith, counted_le _ _ _ loop.invariant.1, gained_le _ _ _ _ c.count_words.ensures)
-
-pub overflow_add-result-2 : goal.overflow_add-result-2
-overflow_add-result-2 c =
-    let loop = c.loop-i in
-    omega (arith, counted_le _ _ _ loop.invariant.1, gained_le _ _ _ _ c.count_words.ensures, gained_le _ _ _ _ c.count_words-2.ensures)
+use Rattle.bitset.proofs.count_joined.Goals.{then-a-b, else-a-b}
 
 pub returns : goal.returns
 returns c =
-    let loop = c.loop-i in
-    let shorter = c.lesser-n in
-    let b-words = c.lesser-b_words in
-    let a-words = c.lesser-a_words in
-    joined_counted _ _ _ _ _ loop.i _ _ _ a-words.ensures b-words.ensures shorter.ensures loop.invariant.1 (omega arith)
-    c.count_words.ensures c.count_words-2.ensures
+    let a = c.args.a.now in
+    let b = c.args.b.now in
+    let longer = c.if-a-b.longer.now in
+    let u = c.min-both.result in
+    let is : ((length a < length b) × (longer ≡ b)) ⊎ ((length b ≤ length a) × (longer ≡ a)) =
+    elim c.if-a-b.branch [ then-a-b w ↦ inl (search rules) | else-a-b w ↦ inr (search rules) ] in
+    joined_counted a b longer is _ u _ _ _ _ c.min.ensures c.min-both.ensures c.min-2.ensures refl
+    (c.count_ones.ensures.counted (in_either a b)
+    (λ i x h e. let v : x ≡ bit_or (get_or a i 0) (get_or b i 0) = search rules in rw v (either_at a b i)))
+    (c.count_ones-2.ensures.counted (λ k. in_either a b (u * 64 + k))
+    (λ i x h e. let v : x ≡ get_or longer (u + i) 0 = search rules in rw v (longer_at a b longer is u i (omega arith))))

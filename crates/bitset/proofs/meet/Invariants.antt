@@ -1,13 +1,7 @@
--- After i turns the first i words are masked and the others as they were; past the end of other they become 0.
-use Prim.Native.Nat.{◌≤◌, ◌-◌}
-use mathlib.Core.Path.{◌≡◌}
-use lib.Bits.{bit_and}
-use lib.ListN.{length}
+-- The first i words are masked and the others as they were; past the end of other they become 0.
+use Rattle.std.proofs.Common.{◌≡◌, bit_and}
 use Rattle.bitset.proofs.Updates.{done}
 use Rattle.bitset.proofs.meet.Given as goal
 
 abbrev pub invariant-loop-i : goal.invariant-loop-i
-invariant-loop-i l = (l.i ≤ l.n) × (length l.set ≡ length l.initial.set) × (l.set ≡ done bit_and l.initial.set l.other l.i)
-
-abbrev pub decreases-loop-i : goal.decreases-loop-i
-decreases-loop-i l = l.n - l.i
+invariant-loop-i l = l.set ≡ done bit_and l.initial.set l.other l.i

@@ -1,7 +1,5 @@
-use mathlib.Core.Path.{refl}
-use native.Mathlib.Omega.{arith}
+use Rattle.std.proofs.Common.{refl, arith}
 use Rattle.bitset.specs.Bit.{lowest_from}
-use Rattle.bitset.specs.Counts.{none_here}
 use Rattle.bitset.specs.Lists.{next_past}
 use Rattle.bitset.proofs.Walks.{next_word, next_found, next_end}
 use Rattle.bitset.proofs.next.Goals as goal
@@ -9,26 +7,15 @@ use Rattle.bitset.proofs.next.Goals as goal
 pub returns-then-end-from : goal.returns-then-end-from
 returns-then-end-from c = next_past _ _ _ c.if-end-from.true
 
-pub loop-i-init : goal.loop-i-init
-loop-i-init c = (omega arith, omega arith, none_here _ _ _ (omega arith))
-
-pub overflow_cast-rest : goal.overflow_cast-rest
-overflow_cast-rest c =
-    let loop = c.loop-i in
-    let known = c.shared_slice_known-in-loop-i-1 in
-    omega (arith, lowest_from 64 _ loop.low (known.given loop.i).fits (omega arith))
-
 pub overflow_add-i-then-rest-ne0 : goal.overflow_add-i-then-rest-ne0
 overflow_add-i-then-rest-ne0 c =
     let loop = c.loop-i in
-    let known = c.shared_slice_known-in-loop-i-1 in
-    omega (arith, lowest_from 64 _ loop.low (known.given loop.i).fits (omega arith))
+    omega (arith, lowest_from 64 _ loop.low (c.type_inv.set loop.i).fits (omega arith))
 
 pub returns-then-rest-ne0 : goal.returns-then-rest-ne0
 returns-then-rest-ne0 c =
     let loop = c.loop-i in
-    let known = c.shared_slice_known-in-loop-i-1 in
-    next_found _ _ loop.i loop.low loop.invariant.2 _ _ _ (known.given loop.i).fits refl c.lesser.ensures c.if-rest-ne0.true loop.invariant.1
+    next_found _ _ loop.i loop.low loop.invariant.2 _ _ _ (c.type_inv.set loop.i).fits refl c.min.ensures c.if-rest-ne0.true loop.invariant.1
     (omega arith)
 
 pub loop-i-preserved : goal.loop-i-preserved
@@ -39,4 +26,4 @@ loop-i-preserved c =
 pub returns : goal.returns
 returns c =
     let loop = c.loop-i in
-    next_end _ _ _ loop.i loop.low _ c.lesser-words.ensures loop.invariant.2 (omega arith) (omega arith)
+    next_end _ _ _ loop.i loop.low _ c.min-i-end.ensures loop.invariant.2 (omega arith) (omega arith)

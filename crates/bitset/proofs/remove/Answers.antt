@@ -1,14 +1,9 @@
 -- The bit of n is masked out of its word; past the end nothing is stored.
-use mathlib.Core.Path.{sym}
-use lib.ListN.{length-set}
-use native.Mathlib.Omega.{arith}
-use lib.Seq.{set_out}
+use Rattle.std.proofs.Common.{sym, arith}
+use Rattle.std.proofs.Math.Seq.{set_out}
 use Rattle.bitset.specs.Sets.{without}
 use Rattle.bitset.proofs.Updates.{remove_is}
 use Rattle.bitset.proofs.remove.Goals as goal
-
-pub shape_of-set : goal.shape_of-set
-shape_of-set c = simp length-set
 
 pub returns-then-at-set : goal.returns-then-at-set
 returns-then-at-set c = remove_is _ _

@@ -1,16 +1,8 @@
 use Rattle.cells.specs.Cells.{same_id}
-use Rattle.cells.specs.Every.{every_start, every_step, every_end}
-use borrow.Author.Rules.{rules}
+use Rattle.std.proofs.Common.{rules}
+use Rattle.cells.proofs.Slices.{equal_cells}
 use Rattle.cells.proofs.ids.same_id.Goals as goal
-
-pub loop-i-init : goal.loop-i-init
-loop-i-init c = (search rules, every_start _)
-
-pub loop-i-preserved : goal.loop-i-preserved
-loop-i-preserved c =
-    let the-loop = c.loop-i in
-    (search rules, every_step _ _ _ the-loop.invariant.1)
 
 pub returns : goal.returns
 unfolding same_id
-returns c = every_end _ _ _ _ (search rules) (search rules) c.loop-i.invariant.1
+returns c = equal_cells c.args.x.now c.args.y.now 32 (search rules) (search rules) _ c.eq.ensures

@@ -1,6 +1,6 @@
 -- The steps follow the rule one by one: the ids named, the mark cleared, the held parents entered; then by whether the nullifier is
 -- there.
-use Rattle.std.proofs.Common.{◌≡◌, refl, length, rules, arith}
+use Rattle.std.proofs.Common.{refl, rules, arith}
 use Rattle.store.specs.Parts.{store_in}
 use Rattle.dag.proofs.Begun.{enterable, genesis_parts, genesis_record, genesis_keepable}
 use Rattle.dag.proofs.Entering.{names_located, genesis_known, genesis_new}
@@ -22,19 +22,19 @@ place_of-requires c =
 pub keep_record-requires : goal.keep_record-requires
 keep_record-requires c =
     let names = names_located (store_in c.args.parts.now) c.args.tx.now.id.now c.args.tx.now.parents.now c.args.at (search rules) c.requires.0.short c.requires.1 in
-    genesis_record _ _ _ _ c.requires.0 _ _ names _ c.begin.ensures.left _ c.enter_held.ensures.left c.args.tx.now.nullifier.0 _ _ c.place_of.ensures c.in-At.is
+    genesis_record _ _ _ _ c.requires.0 _ _ names _ c.begin.ensures.left _ c.enter_held.ensures.left c.args.tx.now.nullifier.0 _ _ c.place_of.ensures c.in-Some.is
 
 pub keep_new-requires : goal.keep_new-requires
 keep_new-requires c =
     let names = names_located (store_in c.args.parts.now) c.args.tx.now.id.now c.args.tx.now.parents.now c.args.at (search rules) c.requires.0.short c.requires.1 in
-    genesis_keepable _ _ _ _ c.requires.0 _ _ names _ c.begin.ensures.left _ c.enter_held.ensures.left c.args.tx.now.nullifier.0 _ refl c.place_of.ensures c.in-Nothing.is
+    genesis_keepable _ _ _ _ c.requires.0 _ _ names _ c.begin.ensures.left _ c.enter_held.ensures.left c.args.tx.now.nullifier.0 _ refl c.place_of.ensures c.in-None.is
 
-pub returns-in-At-clause-left : goal.returns-in-At-clause-left
-returns-in-At-clause-left c =
+pub returns-in-Some-clause-left : goal.returns-in-Some-clause-left
+returns-in-Some-clause-left c =
     let names = names_located (store_in c.args.parts.now) c.args.tx.now.id.now c.args.tx.now.parents.now c.args.at (search rules) c.requires.0.short c.requires.1 in
-    genesis_known _ _ c.args.tx.now.nullifier.0 _ _ _ _ c.begin.ensures.left names _ _ _ _ c.enter_held.ensures.left c.place_of.ensures c.in-At.is c.keep_record.ensures.left
+    genesis_known _ _ c.args.tx.now.nullifier.0 _ _ _ _ c.begin.ensures.left names _ _ _ _ c.enter_held.ensures.left c.place_of.ensures c.in-Some.is c.keep_record.ensures.left
 
-pub returns-in-Nothing-clause-left : goal.returns-in-Nothing-clause-left
-returns-in-Nothing-clause-left c =
+pub returns-in-None-clause-left : goal.returns-in-None-clause-left
+returns-in-None-clause-left c =
     let names = names_located (store_in c.args.parts.now) c.args.tx.now.id.now c.args.tx.now.parents.now c.args.at (search rules) c.requires.0.short c.requires.1 in
-    genesis_new _ _ c.args.tx.now.nullifier.0 _ _ _ _ c.begin.ensures.left names _ _ _ c.enter_held.ensures.left c.place_of.ensures c.in-Nothing.is c.keep_new.ensures.left
+    genesis_new _ _ c.args.tx.now.nullifier.0 _ _ _ _ c.begin.ensures.left names _ _ _ c.enter_held.ensures.left c.place_of.ensures c.in-None.is c.keep_new.ensures.left

@@ -8,16 +8,16 @@ use Rattle.naming.proofs.lookup.locate_one.Goals as goal
 pub overflow_cast-result : goal.overflow_cast-result
 overflow_cast-result c =
     let pre = c.requires in
-    let h = (first_found _ _ _ _ (sym c.number_of.ensures ∙ c.in-At-number_of.is)).below in omega (arith, pre.0.1)
+    let h = (first_found _ _ _ _ (sym c.number_of.ensures ∙ c.in-Some-number_of.is)).below in omega (arith, pre.0.1)
 
-pub returns-in-At : goal.returns-in-At
+pub returns-in-Some : goal.returns-in-Some
 unfolding spot_of
-returns-in-At c = rw c.in-At.is
+returns-in-Some c = rw c.in-Some.is
 
-pub returns-in-At-number_of : goal.returns-in-At-number_of
+pub returns-in-Some-number_of : goal.returns-in-Some-number_of
 unfolding spot_of
-returns-in-At-number_of c = rw (c.in-Nothing.is, ← c.number_of.ensures, c.in-At-number_of.is)
+returns-in-Some-number_of c = rw (c.in-None.is, ← c.number_of.ensures, c.in-Some-number_of.is)
 
-pub returns-in-Nothing-number_of : goal.returns-in-Nothing-number_of
+pub returns-in-None-number_of : goal.returns-in-None-number_of
 unfolding spot_of
-returns-in-Nothing-number_of c = rw (c.in-Nothing.is, ← c.number_of.ensures, c.in-Nothing-number_of.is, c.names.ensures)
+returns-in-None-number_of c = rw (c.in-None.is, ← c.number_of.ensures, c.in-None-number_of.is, c.names.ensures)

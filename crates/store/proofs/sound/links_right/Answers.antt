@@ -4,19 +4,12 @@ use Rattle.store.proofs.sound.links_right.Goals as goal
 
 pub returns : goal.returns
 returns c =
-    let all-below32 = c.all_below32 in
-    let all-below322 = c.all_below32-2 in
-    let all-below323 = c.all_below32-3 in
-    let all-falling32 = c.all_falling32 in
-    let all-falling322 = c.all_falling32-2 in
-    let all-below324 = c.all_below32-4 in
-    let args = c.args in
     rw (
-      all-below32.ensures,
-      all-below322.ensures,
-      all-below323.ensures,
-      all-falling32.ensures,
-      all-falling322.ensures,
-      all-below324.ensures,
+      c.all_below.ensures,
+      c.all_below-2.ensures,
+      c.all_below-3.ensures,
+      c.all_falling.ensures,
+      c.all_falling-2.ensures,
+      c.all_below-4.ensures,
     )
-    (links_checked args.links.now args.u)
+    (links_checked c.args.links.now c.args.u)
