@@ -93,9 +93,6 @@ module _ (t : Store) (p c : ℕ) (b : Bool) (hb : b ≡ held t p) where
 
 ------ the plain insert's parents
 
-pub entered_start : (t : Store) (c : ℕ) (ns : ℕ → ℕ) (k : ℕ) → entered t c ns 0 k ≡ entered t c ns 0 (k - 0)
-entered_start t c ns k = let e : k - 0 ≡ k = omega arith in rw e
-
 module _ (t : Store) (c : ℕ) (ns : ℕ → ℕ) (i k : ℕ) where
   pub entered_end : k ≤ i → walked (Ok tt) t ≡ entered t c ns i (k - i)
   unfolding entered
@@ -121,9 +118,6 @@ held_start t c ns = refl
 pub held_step : (t u v : Store) (c : ℕ) (ns : ℕ → ℕ) (n : ℕ) → u ≡ held_entered t c ns n → v ≡ entered_if u (ns n) c → v ≡ held_entered t c ns (n + 1)
 unfolding held_entered
 held_step t u v c ns n e q = q ∙ rw (e, add-one)
-
-pub held_end : (t u : Store) (c : ℕ) (ns : ℕ → ℕ) (n k : ℕ) → n ≤ k → k ≤ n → u ≡ held_entered t c ns n → u ≡ held_entered t c ns k
-held_end t u c ns n k a b e = let q : k ≡ n = omega arith in rw q e
 
 ------ the calls
 
@@ -155,10 +149,6 @@ module _ (t : Store) (b : Bool) (hb : b ≡ lengths_right t) where
   pub empty_done : (u : Store) → b ≡ true → u ≡ emptied t → left (Ok tt) u ≡ empty_of t
   unfolding empty_of
   empty_done u e q = rw (← hb, e, q)
-
--- the nullifier first, then the record with its place
-pub kept_new_lem : (t : Store) (c : ℕ) (z : Id) (ns : ℕ → ℕ) (k p : ℕ) (u v : Store) → p ≡ spent t → u ≡ with_null t z → v ≡ with_record u c p ns k → v ≡ kept_new t c z ns k
-kept_new_lem t c z ns k p u v e q h = h ∙ rw (e, q)
 
 module _ (t : Store) (x z : Id) (ps : List Id) (u : Store) (c : ℕ) (ns : List ℕ) (hu : u ≡ begun t x ps) (l : Names t x ps c ns) where
   walk_here : entered u c (λ j. get_or ns j 0) 0 (length ns) ≡ entered (begun t x ps) (own_name t x ps) (parent_name t x ps) 0 (length ps)
