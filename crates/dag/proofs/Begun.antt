@@ -8,16 +8,14 @@ use Rattle.store.specs.Tables.{Store, names, entries, spent, used, place_of}
 use Rattle.store.specs.Facts.{Sound}
 use Rattle.store.specs.Views.{counted, mark_used, mark_nulls}
 use Rattle.store.specs.Kept.{mark_sound}
-use Rattle.naming.specs.declared.lookup.Located.{Located}
 use Rattle.naming.specs.Naming.{called, named, number_at}
-use Rattle.naming.specs.Located.{Locates}
 use Rattle.naming.proofs.Named.{Nameable, named_sound, number_named}
 use Rattle.naming.proofs.Kept.{named_kept}
-use Rattle.dag.specs.declared.answers.Entered.{Entered}
-use Rattle.dag.specs.Rules.{Walked, walked, entered, held_entered, begun, own_name, parent_name, places_wanted}
+use Rattle.dag.specs.Rules.{Entered, Walked, walked, entered, held_entered, begun, own_name, parent_name, places_wanted}
 use Rattle.dag.specs.Judging.{Room}
+use Rattle.dag.proofs.Entering.{Names}
 use Rattle.dag.proofs.Walk.{OnlyEntries, CanEnter, entered_only, held_only}
-use Rattle.dag.specs.Begun.{NullParts, Enterable, Keepable, null_parts}
+use Rattle.dag.specs.Begun.{NullsRight, Enterable, Keepable, null_parts}
 
 ------ u is the store with the call's ids named and the mark cleared
 
@@ -68,75 +66,70 @@ module _ (t : Store) (x : Id) (ps : List Id) (p : ℕ) (r : Room t x ps p) where
         parents = λ (j : ℕ) (h : 0 ≤ j) (k : j < 0 + length ps). b.named (suc j) (omega arith);
       }
 
-  -- and so have the steps of the code, which reads the numbers from a list
-  module _ (at : Located) (l : Locates t (called x ps) (suc (length ps)) at) where
-    pub own_located : get_or at.numbers 0 0 ≡ own_name t x ps
-    own_located = l.numbers 0 (omega arith)
+  -- and so have the steps of the code, which has the names in a list
+  module _ (c : ℕ) (ns : List ℕ) (l : Names t x ps c ns) (u : Store) (hu : u ≡ begun t x ps) where
+    begun_here : Begun u
+    begun_here = rw hu begun_is
 
-    pub parent_located : (j : ℕ) → j < length ps → get_or at.numbers (1 + j) 0 ≡ parent_name t x ps j
-    parent_located j h = let e : 1 + j ≡ suc j = omega arith in rw e (l.numbers (suc j) (omega arith))
+    pub own_below : c < name_limit
+    own_below = let b = begun_here in omega (arith, l.own, b.named 0 (omega arith), b.sound.within.few_names)
 
-    module _ (u : Store) (hu : u ≡ begun t x ps) where
-      begun_here : Begun u
-      begun_here = rw hu begun_is
+    pub enterable : Enterable u ns
+    enterable =
+        let b = begun_here in
+        record {
+          head_long = b.sound.lengths.head_long;
+          room = omega (arith, b.entries_same, l.count, r.child_room);
+          named = λ (j : ℕ) (h : j < length ns).
+              let k : j < length ps = omega (arith, l.count) in
+              omega (arith, l.parents j k, b.named (suc j) (omega arith), b.sound.within.few_names);
+        }
 
-      pub own_below : get_or at.numbers 0 0 < name_limit
-      own_below = let b = begun_here in omega (arith, own_located, b.named 0 (omega arith), b.sound.within.few_names)
+    -- the same walk over the names of the list
+    can_enter_here : CanEnter u c (λ j. get_or ns j 0) 0 (length ns)
+    can_enter_here =
+        let b = begun_here in
+        record {
+          sound = b.sound;
+          room = omega (arith, b.entries_same, l.count, r.child_room);
+          own = omega (arith, l.own, b.named 0 (omega arith));
+          parents = λ (j : ℕ) (h : 0 ≤ j) (k : j < 0 + length ns).
+              let m : j < length ps = omega (arith, l.count) in
+              omega (arith, l.parents j m, b.named (suc j) (omega arith));
+        }
 
-      pub enterable : Enterable u.head at.numbers (length ps)
-      enterable =
-          let b = begun_here in
+    -- w is what the walk leaves: the nullifier and the record can be kept there
+    module _ (w : Store) (o : OnlyEntries u w (length ns)) where
+      only_keepable : spent t < null_limit → Keepable w c ns
+      only_keepable h =
           record {
-            head_long = b.sound.lengths.head_long;
-            few = r.short;
-            room = omega (arith, b.entries_same, r.child_room);
-            named = λ (j : ℕ) (h : j < length ps). omega (arith, parent_located j h, b.named (suc j) (omega arith), b.sound.within.few_names);
+            few = omega (arith, l.count, r.short);
+            room = omega (arith, o.spent_same, begun_here.spent_same);
+            keys_long = o.sound.lengths.keys_long;
+            rests_long = o.sound.lengths.rests_long;
+            named = own_below;
           }
 
-      -- the same walk over the numbers of the list
-      can_enter_here : CanEnter u (get_or at.numbers 0 0) (λ j. get_or at.numbers (1 + j) 0) 0 (length ps)
-      can_enter_here =
-          let b = begun_here in
-          record {
-            sound = b.sound;
-            room = omega (arith, b.entries_same, r.child_room);
-            own = omega (arith, own_located, b.named 0 (omega arith));
-            parents = λ (j : ℕ) (h : 0 ≤ j) (k : j < 0 + length ps). omega (arith, parent_located j (omega arith), b.named (suc j) (omega arith));
-          }
+      only_place : (z : Id) → place_of w z ≡ place_of t z
+      only_place z = o.nulls.place_same z ∙ begun_here.place_same z
 
-      -- w is what the walk leaves: the nullifier and the record can be kept there
-      module _ (w : Store) (o : OnlyEntries u w (length ps)) where
-        only_keepable : spent t < null_limit → Keepable w.head w.keys w.rests at.numbers (length ps)
-        only_keepable h =
-            record {
-              few = r.short;
-              room = omega (arith, o.spent_same, begun_here.spent_same);
-              keys_long = o.sound.lengths.keys_long;
-              rests_long = o.sound.lengths.rests_long;
-              named = own_below;
-            }
+    pub insert_keepable : (e : Entered) (w : Store) → walked e w ≡ entered u c (λ j. get_or ns j 0) 0 (length ns) → spent t < null_limit → Keepable w c ns
+    insert_keepable e w q = only_keepable w (rw (ap (λ (d : Walked). d.parts) q) (entered_only u _ _ 0 (length ns) can_enter_here))
 
-        only_place : (z : Id) → place_of w z ≡ place_of t z
-        only_place z = o.nulls.place_same z ∙ begun_here.place_same z
+    module _ (w : Store) (q : w ≡ held_entered u c (λ j. get_or ns j 0) (length ns)) where
+      held_here : OnlyEntries u w (length ns)
+      held_here = rw q (held_only u _ _ (length ns) can_enter_here)
 
-      pub insert_keepable : (e : Entered) (w : Store) → walked e w ≡ entered u (get_or at.numbers 0 0) (λ j. get_or at.numbers (1 + j) 0) 0 (length ps) → spent t < null_limit
-          → Keepable w.head w.keys w.rests at.numbers (length ps)
-      insert_keepable e w q = only_keepable w (rw (ap (λ (d : Walked). d.parts) q) (entered_only u _ _ 0 (length ps) can_enter_here))
+      pub genesis_parts : NullsRight w
+      genesis_parts = null_parts w held_here.sound
 
-      module _ (w : Store) (q : w ≡ held_entered u (get_or at.numbers 0 0) (λ j. get_or at.numbers (1 + j) 0) (length ps)) where
-        held_here : OnlyEntries u w (length ps)
-        held_here = rw q (held_only u _ _ (length ps) can_enter_here)
+      pub genesis_record : (z : Id) (f : Option ℕ) (n : ℕ) → f ≡ place_of w z → f ≡ Some n → (c < name_limit) × ((n < null_limit) × (length ns ≤ parent_limit))
+      genesis_record z f n e h =
+          let b = first_found (has_id w.keys w.rests nulls_at z) 0 (spent w) n (sym e ∙ h) in
+          (own_below, (omega (arith, b.below, held_here.sound.within.few_spent), omega (arith, l.count, r.short)))
 
-        pub genesis_parts : NullParts w.head w.keys w.rests
-        genesis_parts = null_parts w held_here.sound
-
-        pub genesis_record : (z : Id) (f : Option ℕ) (n : ℕ) → f ≡ place_of w z → f ≡ Some n → (get_or at.numbers 0 0 < name_limit) × ((n < null_limit) × (length ps ≤ parent_limit))
-        genesis_record z f n e h =
-            let b = first_found (has_id w.keys w.rests nulls_at z) 0 (spent w) n (sym e ∙ h) in
-            (own_below, (omega (arith, b.below, held_here.sound.within.few_spent), r.short))
-
-        pub genesis_keepable : (z : Id) (f : Option ℕ) → p ≡ places_wanted (place_of t z) → f ≡ place_of w z → f ≡ None → Keepable w.head w.keys w.rests at.numbers (length ps)
-        genesis_keepable z f k e h =
-            let a : place_of t z ≡ None = sym (only_place w held_here z) ∙ sym e ∙ h in
-            let d : p ≡ 1 = k ∙ rw a in
-            only_keepable w held_here (omega (arith, r.null_room))
+      pub genesis_keepable : (z : Id) (f : Option ℕ) → p ≡ places_wanted (place_of t z) → f ≡ place_of w z → f ≡ None → Keepable w c ns
+      genesis_keepable z f k e h =
+          let a : place_of t z ≡ None = sym (only_place w held_here z) ∙ sym e ∙ h in
+          let d : p ≡ 1 = k ∙ rw a in
+          only_keepable w held_here (omega (arith, r.null_room))

@@ -1,5 +1,5 @@
 -- What an insert changes: names, the mark, the children of its parents, its own record and its nullifier; and no other view.
-use Rattle.std.specs.Prelude.{ℕ, suc, ◌+◌, ◌≤◌, ◌<◌, ◌≡◌, ◌≢◌, false, List, ◌++◌, length, Option, Some, None}
+use Rattle.std.specs.Prelude.{ℕ, suc, ◌+◌, ◌≤◌, ◌<◌, ◌≡◌, ◌≢◌, false, List, ◌++◌, length, Ok, Err, Option, Some, None}
 use Rattle.std.proofs.Math.Path.{refl}
 use Rattle.std.proofs.Common.{sym, ap, ◌∙◌, arith}
 use Rattle.cells.specs.Cells.{Id, Bytes, IsId, same_id, pick_found, or_else}
@@ -14,13 +14,7 @@ use Rattle.naming.proofs.Named.{named_names, named_sound, number_after, named_nu
 use Rattle.naming.proofs.Kept.{named_kept, named_children, named_held}
 use Rattle.dag.specs.declared.answers.DagRefusal.{DagRefusal}
 use Rattle.dag.specs.declared.answers.DagRefusal.TheVariants.{StoreBad, ListTooLong, DuplicateNullifier, TooManyParents, TooFewParents, MissingParent, NameRoom, ChildRoom, NullifierRoom}
-use Rattle.dag.specs.declared.answers.Verdict.{Verdict}
-use Rattle.dag.specs.declared.answers.Verdict.TheVariants.{Fine, Refuse}
-use Rattle.dag.specs.declared.answers.Entered.{Entered}
-use Rattle.dag.specs.declared.answers.Entered.TheVariants.{Passed, Stopped}
-use Rattle.dag.specs.declared.answers.Reply.{Reply}
-use Rattle.dag.specs.declared.answers.Reply.TheVariants.{Done, Refused}
-use Rattle.dag.specs.Rules.{Left, left, begun, own_name, parent_name, kept_new, insert_verdict, Walked, entered, stored_if, insert_tried, insert_of, places_wanted, genesis_verdict, held_entered, kept_at, genesis_done, genesis_of}
+use Rattle.dag.specs.Rules.{Reply, Verdict, Entered, Left, left, begun, own_name, parent_name, kept_new, insert_verdict, Walked, entered, stored_if, insert_tried, insert_of, places_wanted, genesis_verdict, held_entered, kept_at, genesis_done, genesis_of}
 use Rattle.dag.specs.Judging.{Room, insert_fine, genesis_fine}
 use Rattle.store.specs.Same.{names_then, record_then, rest_then}
 use Rattle.dag.proofs.Walk.{OnlyEntries, entered_only, held_only}
@@ -162,16 +156,16 @@ place_for t None = spent t
 
 -- how many parents of k got an entry, by the reply
 abbrev pub entered_by : Reply → ℕ → ℕ
-entered_by Done k = k
-entered_by (Refused (MissingParent i)) k = i
-entered_by (Refused StoreBad) k = 0
-entered_by (Refused ListTooLong) k = 0
-entered_by (Refused DuplicateNullifier) k = 0
-entered_by (Refused (TooManyParents n l)) k = 0
-entered_by (Refused (TooFewParents n l)) k = 0
-entered_by (Refused NameRoom) k = 0
-entered_by (Refused ChildRoom) k = 0
-entered_by (Refused NullifierRoom) k = 0
+entered_by (Ok u) k = k
+entered_by (Err (MissingParent i)) k = i
+entered_by (Err StoreBad) k = 0
+entered_by (Err ListTooLong) k = 0
+entered_by (Err DuplicateNullifier) k = 0
+entered_by (Err (TooManyParents n l)) k = 0
+entered_by (Err (TooFewParents n l)) k = 0
+entered_by (Err NameRoom) k = 0
+entered_by (Err ChildRoom) k = 0
+entered_by (Err NullifierRoom) k = 0
 
 module _ (t : Store) (x z : Id) (ps : List Id) (p : ℕ) (r : Room t x ps p) (w : Store) (o : OnlyEntries (begun t x ps) w (length ps)) where
   own : own_name t x ps < name_limit
@@ -185,11 +179,11 @@ module _ (t : Store) (x z : Id) (ps : List Id) (p : ℕ) (r : Room t x ps p) (w 
     nulled = null_sound w z o.sound free
 
     later_stored : (e : Entered) → Later (begun t x ps) (stored_if e w (own_name t x ps) z (parent_name t x ps) (length ps)).parts (own_name t x ps)
-    later_stored Passed =
+    later_stored (Ok u) =
         later_then (begun t x ps) (with_null w z) (kept_new w (own_name t x ps) z (parent_name t x ps) (length ps)) (own_name t x ps)
         (later_then (begun t x ps) w (with_null w z) (own_name t x ps) (later_walk (begun t x ps) w (own_name t x ps) (length ps) o) (later_null w z (own_name t x ps) o.sound free))
         (later_record (with_null w z) (own_name t x ps) (spent w) (parent_name t x ps) (length ps) nulled own r.short)
-    later_stored (Stopped i) = later_walk (begun t x ps) w (own_name t x ps) (length ps) o
+    later_stored (Err i) = later_walk (begun t x ps) w (own_name t x ps) (length ps) o
 
     has_record : HasRecord t x ps (spent t) (kept_new w (own_name t x ps) z (parent_name t x ps) (length ps))
     has_record =
@@ -217,12 +211,12 @@ module _ (t : Store) (x z : Id) (ps : List Id) (p : ℕ) (r : Room t x ps p) (w 
 
     -- nullifier and record leave all children as the walk left them
     stored_children : (e : Entered) (m : ℕ) → m < names w → children_of (stored_if e w (own_name t x ps) z (parent_name t x ps) (length ps)).parts m ≡ children_of w m
-    stored_children Passed m h =
+    stored_children (Ok u) m h =
         let d = counted (with_null w z) (more_spent (used w)) (null_used w z o.sound.lengths free) in
         children_kept (with_null w z) nulled (kept_new w (own_name t x ps) z (parent_name t x ps) (length ps))
         (record_children (with_null w z) (own_name t x ps) (spent w) (parent_name t x ps) (length ps) nulled.lengths own r.short) m (omega (arith, d.names_are))
         ∙ children_kept w o.sound (with_null w z) (null_children w z o.sound.lengths free) m h
-    stored_children (Stopped i) m h = refl
+    stored_children (Err i) m h = refl
 
   -- the genesis insert keeps the record with the place that was found, or with a new one
   later_kept : (f : Option ℕ) → place_of t z ≡ f → p ≡ places_wanted f → Later (begun t x ps) (kept_at f w (own_name t x ps) z (parent_name t x ps) (length ps)) (own_name t x ps)
@@ -230,7 +224,7 @@ module _ (t : Store) (x z : Id) (ps : List Id) (p : ℕ) (r : Room t x ps p) (w 
       later_then (begun t x ps) w (with_record w (own_name t x ps) n (parent_name t x ps) (length ps)) (own_name t x ps)
       (later_walk (begun t x ps) w (own_name t x ps) (length ps) o)
       (later_record w (own_name t x ps) n (parent_name t x ps) (length ps) o.sound own r.short)
-  later_kept None e q = later_stored (omega (arith, r.null_room)) Passed
+  later_kept None e q = later_stored (omega (arith, r.null_room)) (Ok tt)
 
   has_kept : (f : Option ℕ) → place_of t z ≡ f → p ≡ places_wanted f → HasRecord t x ps (place_for t f) (kept_at f w (own_name t x ps) z (parent_name t x ps) (length ps))
   has_kept (Some n) e q =
@@ -246,17 +240,17 @@ module _ (t : Store) (x z : Id) (ps : List Id) (p : ℕ) (r : Room t x ps p) (w 
   kept_children (Some n) q m h =
       children_kept w o.sound (with_record w (own_name t x ps) n (parent_name t x ps) (length ps))
       (record_children w (own_name t x ps) n (parent_name t x ps) (length ps) o.sound.lengths own r.short) m h
-  kept_children None q m h = stored_children (omega (arith, r.null_room)) Passed m h
+  kept_children None q m h = stored_children (omega (arith, r.null_room)) (Ok tt) m h
 
 entered_reply : (e : Entered) (w : Store) (c : ℕ) (z : Id) (ns : ℕ → ℕ) (k : ℕ) → passed_of e 0 k ≡ entered_by (stored_if e w c z ns k).reply k
-entered_reply Passed w c z ns k = refl
-entered_reply (Stopped i) w c z ns k = omega arith
+entered_reply (Ok u) w c z ns k = refl
+entered_reply (Err i) w c z ns k = omega arith
 
 module _ (t : Store) (x z : Id) (ps : List Id) where
   walk : Walked
   walk = entered (begun t x ps) (own_name t x ps) (parent_name t x ps) 0 (length ps)
 
-  module _ (e : insert_verdict t x z ps ≡ Fine) where
+  module _ (e : insert_verdict t x z ps ≡ Ok tt) where
     passed : Room t x ps 1
     passed = insert_fine t x z ps e
 
@@ -294,30 +288,30 @@ module _ (t : Store) (x z : Id) (ps : List Id) where
           entered_reply walk.way walk.parts (own_name t x ps) z (parent_name t x ps) (length ps),
         ))
 
-  refused : (r : DagRefusal) → insert_verdict t x z ps ≡ Refuse r → insert_of t x z ps ≡ left (Refused r) t
+  refused : (r : DagRefusal) → insert_verdict t x z ps ≡ Err r → insert_of t x z ps ≡ left (Err r) t
   unfolding insert_of
   refused r e = rw e
 
-  stored_by : (e : Entered) → walk.way ≡ e → (v : Verdict) → insert_verdict t x z ps ≡ v → (insert_of t x z ps).reply ≡ Done
+  stored_by : (e : Entered) → walk.way ≡ e → (v : Verdict) → insert_verdict t x z ps ≡ v → (insert_of t x z ps).reply ≡ Ok tt
       → HasRecord t x ps (spent t) (insert_of t x z ps).parts × HasNull t z (insert_of t x z ps).parts
-  stored_by Passed q Fine e d =
-      let f : insert_of t x z ps ≡ left Done (kept_new walk.parts (own_name t x ps) z (parent_name t x ps) (length ps)) = tried e ∙ rw q in
+  stored_by (Ok u) q (Ok v) e d =
+      let f : insert_of t x z ps ≡ left (Ok tt) (kept_new walk.parts (own_name t x ps) z (parent_name t x ps) (length ps)) = tried e ∙ rw q in
       let o = walked_only e in
       let h : spent t < null_limit = omega (arith, (passed e).null_room) in
       (rw f (has_record t x z ps 1 (passed e) walk.parts o h), rw f (has_null t x z ps 1 (passed e) walk.parts o h))
-  stored_by (Stopped i) q Fine e d =
-      let f : insert_of t x z ps ≡ left (Refused (MissingParent i)) walk.parts = tried e ∙ rw q in
-      absurd (let g : Refused (MissingParent i) ≡ Done = sym (ap (λ (l : Left). l.reply) f) ∙ d in let y : ◌≡◌ {A = ℕ} 0 1 = cc in omega arith)
-  stored_by w q (Refuse r) e d =
-      absurd (let g : Refused r ≡ Done = sym (ap (λ (l : Left). l.reply) (refused r e)) ∙ d in let y : ◌≡◌ {A = ℕ} 0 1 = cc in omega arith)
+  stored_by (Err i) q (Ok v) e d =
+      let f : insert_of t x z ps ≡ left (Err (MissingParent i)) walk.parts = tried e ∙ rw q in
+      absurd (let g : Err (MissingParent i) ≡ Ok tt = sym (ap (λ (l : Left). l.reply) f) ∙ d in let y : ◌≡◌ {A = ℕ} 0 1 = cc in omega arith)
+  stored_by w q (Err r) e d =
+      absurd (let g : Err r ≡ Ok tt = sym (ap (λ (l : Left). l.reply) (refused r e)) ∙ d in let y : ◌≡◌ {A = ℕ} 0 1 = cc in omega arith)
 
   -- an insert that is served has stored its record, and its nullifier after the others
-  pub insert_stored : (insert_of t x z ps).reply ≡ Done → HasRecord t x ps (spent t) (insert_of t x z ps).parts × HasNull t z (insert_of t x z ps).parts
+  pub insert_stored : (insert_of t x z ps).reply ≡ Ok tt → HasRecord t x ps (spent t) (insert_of t x z ps).parts × HasNull t z (insert_of t x z ps).parts
   insert_stored = stored_by walk.way refl (insert_verdict t x z ps) refl
 
 ------ the genesis insert
 
-module _ (t : Store) (x z : Id) (ps : List Id) (e : genesis_verdict t x z ps ≡ Fine) where
+module _ (t : Store) (x z : Id) (ps : List Id) (e : genesis_verdict t x z ps ≡ Ok tt) where
   root_room : Room t x ps (places_wanted (place_of t z))
   root_room = genesis_fine t x z ps e
 
@@ -331,7 +325,7 @@ module _ (t : Store) (x z : Id) (ps : List Id) (e : genesis_verdict t x z ps ≡
   root_place : place_of root_walk z ≡ place_of t z
   root_place = root_only.nulls.place_same z ∙ begun_place t x ps (places_wanted (place_of t z)) root_room z
 
-  rooted : genesis_of t x z ps ≡ left Done (kept_at (place_of t z) root_walk (own_name t x ps) z (parent_name t x ps) (length ps))
+  rooted : genesis_of t x z ps ≡ left (Ok tt) (kept_at (place_of t z) root_walk (own_name t x ps) z (parent_name t x ps) (length ps))
   unfolding genesis_of genesis_done root_walk
   rooted = rw (e, root_place)
 

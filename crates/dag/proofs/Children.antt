@@ -1,7 +1,7 @@
 -- The children of each name after the walk over the parents: a parent that got an entry has the child at the end, once for each
 -- place in the list.
 use Prim.Native.Nat.{ℕ, zero, suc, ◌+◌, ◌-◌, ◌≤◌, ◌<◌}
-use Rattle.std.specs.Prelude.{◌≡◌, Bool, eqb}
+use Rattle.std.specs.Prelude.{◌≡◌, Bool, eqb, Ok, Err}
 use Rattle.std.proofs.Math.Path.{refl, sym, ap}
 use Rattle.std.proofs.Common.{◌∙◌, eqb-true}
 use Rattle.std.proofs.Math.Bool.{true, false}
@@ -13,9 +13,7 @@ use Rattle.store.specs.Tables.{Store, names, entries, held, children_of, with_ch
 use Rattle.store.specs.Facts.{Sound}
 use Rattle.store.specs.Views.{held_same}
 use Rattle.store.specs.Chains.{children_gained, children_other}
-use Rattle.dag.specs.declared.answers.Entered.{Entered}
-use Rattle.dag.specs.declared.answers.Entered.TheVariants.{Passed, Stopped}
-use Rattle.dag.specs.Rules.{walked, pick_walked, entered, pick_store, entered_if, held_entered}
+use Rattle.dag.specs.Rules.{Entered, walked, pick_walked, entered, pick_store, entered_if, held_entered}
 use Rattle.dag.proofs.Walk.{CanEnter, can_next, can_less, next_names, held_only}
 
 -- c, where the test holds
@@ -30,8 +28,8 @@ shares c ns m i (suc n) = share_if (eqb (ns i) m) c ++ shares c ns m (i + 1) n
 
 -- how many parents the walk from the i-th on entered, of n
 abbrev pub passed_of : Entered → ℕ → ℕ → ℕ
-passed_of Passed i n = n
-passed_of (Stopped j) i n = j - i
+passed_of (Ok u) i n = n
+passed_of (Err j) i n = j - i
 
 -- an entry for p gives its child to p, and to no other name
 share_by : (t : Store) (p c m : ℕ) (b : Bool) → eqb p m ≡ b → Sound t → entries t < child_limit → p < names t → m < names t
@@ -42,25 +40,25 @@ share_by t p c m false e s room hp h =
     children_other t s p c room hp m h (λ (w : m ≡ p). d (sym w)) ∙ sym (append-nil (children_of t m))
 
 -- a walk stops at no parent before its first
-stop_by : (t : Store) (c : ℕ) (ns : ℕ → ℕ) (i n j : ℕ) (b : Bool) → ((entered (with_child t (ns i) c) c ns (i + 1) n).way ≡ Stopped j → i + 1 ≤ j)
-    → (pick_walked b (entered (with_child t (ns i) c) c ns (i + 1) n) (walked (Stopped i) t)).way ≡ Stopped j → i ≤ j
+stop_by : (t : Store) (c : ℕ) (ns : ℕ → ℕ) (i n j : ℕ) (b : Bool) → ((entered (with_child t (ns i) c) c ns (i + 1) n).way ≡ Err j → i + 1 ≤ j)
+    → (pick_walked b (entered (with_child t (ns i) c) c ns (i + 1) n) (walked (Err i) t)).way ≡ Err j → i ≤ j
 stop_by t c ns i n j true r e = omega (arith, r e)
 stop_by t c ns i n j false r e = let q : i ≡ j = cc in omega arith
 
-stops_from : (t : Store) (c : ℕ) (ns : ℕ → ℕ) (i n j : ℕ) → (entered t c ns i n).way ≡ Stopped j → i ≤ j
+stops_from : (t : Store) (c : ℕ) (ns : ℕ → ℕ) (i n j : ℕ) → (entered t c ns i n).way ≡ Err j → i ≤ j
 unfolding entered
 stops_from t c ns i zero j e = absurd (let z : ◌≡◌ {A = ℕ} 0 1 = cc in omega arith)
 stops_from t c ns i (suc n) j e = stop_by t c ns i n j (held t (ns i)) (stops_from (with_child t (ns i) c) c ns (i + 1) n j) e
 
-passed_next : (e : Entered) (i n : ℕ) → ((j : ℕ) → e ≡ Stopped j → i + 1 ≤ j) → passed_of e i (suc n) ≡ suc (passed_of e (i + 1) n)
-passed_next Passed i n f = refl
-passed_next (Stopped j) i n f = let h = f j refl in omega arith
+passed_next : (e : Entered) (i n : ℕ) → ((j : ℕ) → e ≡ Err j → i + 1 ≤ j) → passed_of e i (suc n) ≡ suc (passed_of e (i + 1) n)
+passed_next (Ok u) i n f = refl
+passed_next (Err j) i n f = let h = f j refl in omega arith
 
 module _ (c : ℕ) (ns : ℕ → ℕ) (m : ℕ) where
   walk_by : (t : Store) (i n : ℕ) (b : Bool) → CanEnter t c ns i (suc n) → m < names t
       → children_of (entered (with_child t (ns i) c) c ns (i + 1) n).parts m ≡ children_of (with_child t (ns i) c) m ++ shares c ns m (i + 1) (passed_of (entered (with_child t (ns i) c) c ns (i + 1) n).way (i + 1) n)
-      → children_of (pick_walked b (entered (with_child t (ns i) c) c ns (i + 1) n) (walked (Stopped i) t)).parts m
-      ≡ children_of t m ++ shares c ns m i (passed_of (pick_walked b (entered (with_child t (ns i) c) c ns (i + 1) n) (walked (Stopped i) t)).way i (suc n))
+      → children_of (pick_walked b (entered (with_child t (ns i) c) c ns (i + 1) n) (walked (Err i) t)).parts m
+      ≡ children_of t m ++ shares c ns m i (passed_of (pick_walked b (entered (with_child t (ns i) c) c ns (i + 1) n) (walked (Err i) t)).way i (suc n))
   unfolding shares
   walk_by t i n false a h r = let z : i - i ≡ 0 = omega arith in rw z (sym (append-nil (children_of t m)))
   walk_by t i n true a h r =

@@ -1,5 +1,5 @@
 -- What the walk over the parents changes: child entries, and nothing else.
-use Rattle.std.specs.Prelude.{ℕ, zero, suc, ◌+◌, ◌≤◌, ◌<◌, ◌≡◌, refl, Bool, true, false}
+use Rattle.std.specs.Prelude.{ℕ, zero, suc, ◌+◌, ◌≤◌, ◌<◌, ◌≡◌, refl, Bool, true, false, Err}
 use Rattle.std.proofs.Common.{◌∙◌, arith}
 use Rattle.store.specs.Limits.{name_limit, child_limit}
 use Rattle.store.specs.Tables.{Store, names, entries, spent, pairs, waiting, accepted, used, marked, held, with_child}
@@ -7,7 +7,6 @@ use Rattle.store.specs.Facts.{Sound}
 use Rattle.store.specs.Views.{SameNames, SameNulls, SameRecord, SameRest, counted, more_entries, child_used, child_mark, child_names, child_nulls, child_record, child_rest}
 use Rattle.store.specs.Kept.{child_sound}
 use Rattle.store.specs.Same.{names_self, nulls_self, record_self, rest_self, names_then, nulls_then, record_then, rest_then}
-use Rattle.dag.specs.declared.answers.Entered.TheVariants.{Stopped}
 use Rattle.dag.specs.Rules.{walked, pick_walked, entered, pick_store, entered_if, held_entered}
 
 -- u is t with child entries more, n at most
@@ -109,7 +108,7 @@ next_names t c ns i n a =
 
 only_by : (t : Store) (c : ℕ) (ns : ℕ → ℕ) (i n : ℕ) (b : Bool) → CanEnter t c ns i (suc n)
     → OnlyEntries (with_child t (ns i) c) (entered (with_child t (ns i) c) c ns (i + 1) n).parts n
-    → OnlyEntries t (pick_walked b (entered (with_child t (ns i) c) c ns (i + 1) n) (walked (Stopped i) t)).parts (suc n)
+    → OnlyEntries t (pick_walked b (entered (with_child t (ns i) c) c ns (i + 1) n) (walked (Err i) t)).parts (suc n)
 only_by t c ns i n false a r = only_none t (suc n) a.sound
 only_by t c ns i n true a r =
     let room = a.room in

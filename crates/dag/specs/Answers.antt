@@ -1,10 +1,8 @@
 -- The number and the values of each reply.
-use Rattle.std.specs.Prelude.{ℕ, List, [], ◌∷◌, get_or}
+use Rattle.std.specs.Prelude.{ℕ, List, [], ◌∷◌, get_or, Result, Ok, Err, ⊤}
 use Rattle.cells.specs.Cells.{Id}
 use Rattle.dag.specs.declared.answers.DagRefusal.{DagRefusal}
 use Rattle.dag.specs.declared.answers.DagRefusal.TheVariants.{StoreBad, ListTooLong, DuplicateNullifier, TooManyParents, TooFewParents, MissingParent, NameRoom, ChildRoom, NullifierRoom}
-use Rattle.dag.specs.declared.answers.Reply.{Reply}
-use Rattle.dag.specs.declared.answers.Reply.TheVariants.{Done, Refused}
 
 -- the number, and the values that the table of replies names
 pub record Numbered : Type 0 where
@@ -28,6 +26,6 @@ numbered ChildRoom ps = alone 8
 numbered NullifierRoom ps = alone 9
 
 -- a served call replies 0
-unfoldable pub replied : Reply → List Id → Numbered
-replied Done ps = alone 0
-replied (Refused r) ps = numbered r ps
+unfoldable pub replied : Result ⊤ DagRefusal → List Id → Numbered
+replied (Ok done) ps = alone 0
+replied (Err r) ps = numbered r ps

@@ -1,7 +1,7 @@
 -- What the steps of a call ask of the parts that they read or write. That naming leaves it so stands in proofs/Begun.
 use Rattle.std.specs.Prelude.{ℕ, ◌+◌, ◌≤◌, ◌<◌, ◌≡◌, List, length, get_or}
 use Rattle.store.specs.Limits.{name_limit, parent_limit, child_limit, null_limit, head_length, keys_length, rests_length}
-use Rattle.store.specs.Tables.{Store}
+use Rattle.store.specs.Tables.{Store, entries, spent}
 use Rattle.store.specs.Facts.{Sound}
 use Rattle.naming.specs.Naming.{NameParts}
 
@@ -18,20 +18,22 @@ pub record NullParts (head keys rests : List ℕ) : Type 0 where
   pub keys_long : length keys ≡ keys_length
   pub rests_long : length rests ≡ rests_length
 
+abbrev pub NullsRight : Store → Type 0
+NullsRight t = NullParts t.head t.keys t.rests
+
 pub null_parts : (t : Store) → Sound t → NullParts t.head t.keys t.rests
 null_parts t s = record { few = s.within.few_spent; keys_long = s.lengths.keys_long; rests_long = s.lengths.rests_long }
 
--- there are k entries free for the numbers from place 1 on, and these are names
-pub record Enterable (head numbers : List ℕ) (k : ℕ) : Type 0 where
-  pub head_long : length head ≡ head_length
-  pub few : k ≤ parent_limit
-  pub room : get_or head 1 0 + k ≤ child_limit
-  pub named : (j : ℕ) → j < k → get_or numbers (1 + j) 0 < name_limit
+-- there are entries free for all of ns, and these are names
+pub record Enterable (t : Store) (ns : List ℕ) : Type 0 where
+  pub head_long : length t.head ≡ head_length
+  pub room : entries t + length ns ≤ child_limit
+  pub named : (j : ℕ) → j < length ns → get_or ns j 0 < name_limit
 
--- there is a place for a nullifier, and the number at place 0 is a name
-pub record Keepable (head keys rests numbers : List ℕ) (k : ℕ) : Type 0 where
-  pub few : k ≤ parent_limit
-  pub room : get_or head 2 0 < null_limit
-  pub keys_long : length keys ≡ keys_length
-  pub rests_long : length rests ≡ rests_length
-  pub named : get_or numbers 0 0 < name_limit
+-- there is a place for a nullifier, and a record of name c has room for the parents ns
+pub record Keepable (t : Store) (c : ℕ) (ns : List ℕ) : Type 0 where
+  pub few : length ns ≤ parent_limit
+  pub room : spent t < null_limit
+  pub keys_long : length t.keys ≡ keys_length
+  pub rests_long : length t.rests ≡ rests_length
+  pub named : c < name_limit

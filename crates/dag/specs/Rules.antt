@@ -1,5 +1,6 @@
--- The inserts and the emptying: what each call checks, in this order, what it answers and what it leaves.
-use Rattle.std.specs.Prelude.{ℕ, zero, suc, ◌+◌, Bool, true, false, not, List, length, ltb, Option, Some, None}
+-- The inserts and the emptying. A call is refused in the order in which the refusals are numbered, before it changes anything;
+-- only a missing parent is found on the way.
+use Rattle.std.specs.Prelude.{ℕ, zero, suc, ◌+◌, Bool, true, false, not, List, length, ltb, Result, Ok, Err, ⊤, Option, Some, None}
 use Rattle.cells.specs.Cells.{Id}
 use Rattle.store.specs.Limits.{parent_limit, fewest_parents, most_parents}
 use Rattle.store.specs.Tables.{Store, spent, held, is_spent, place_of, with_child, with_null, with_record, unmarked, emptied}
@@ -7,17 +8,23 @@ use Rattle.store.specs.Sound.{lengths_right, store_bad}
 use Rattle.naming.specs.Naming.{called, named, number_at, no_name_room, no_child_room, no_null_room}
 use Rattle.dag.specs.declared.answers.DagRefusal.{DagRefusal}
 use Rattle.dag.specs.declared.answers.DagRefusal.TheVariants.{StoreBad, ListTooLong, DuplicateNullifier, TooManyParents, TooFewParents, MissingParent, NameRoom, ChildRoom, NullifierRoom}
-use Rattle.dag.specs.declared.answers.Verdict.{Verdict}
-use Rattle.dag.specs.declared.answers.Verdict.TheVariants.{Fine, Refuse}
-use Rattle.dag.specs.declared.answers.Entered.{Entered}
-use Rattle.dag.specs.declared.answers.Entered.TheVariants.{Passed, Stopped}
-use Rattle.dag.specs.declared.answers.Reply.{Reply}
-use Rattle.dag.specs.declared.answers.Reply.TheVariants.{Done, Refused}
+
+-- what a call answers: served, or refused
+abbrev pub Reply : Type 0
+Reply = Result ⊤ DagRefusal
+
+-- what its checks find: nothing against it, or a refusal
+abbrev pub Verdict : Type 0
+Verdict = Result ⊤ DagRefusal
+
+-- how far the parents were gone through: past all, or to the place of the first that is not held
+abbrev pub Entered : Type 0
+Entered = Result ⊤ ℕ
 
 infixr 5 refuse◌if◌else◌
 -- refused with r where the test holds, else what follows
 abbrev pub refuse◌if◌else◌ : DagRefusal → Bool → Verdict → Verdict
-refuse r if true else v = Refuse r
+refuse r if true else v = Err r
 refuse r if false else v = v
 
 -- the reply, and the parts at exit
@@ -30,14 +37,14 @@ left r t = record { reply = r; parts = t }
 
 -- a call that is refused before any change leaves the parts as they were
 abbrev pub by_verdict : Verdict → Store → Left → Left
-by_verdict (Refuse r) t l = left (Refused r) t
-by_verdict Fine t l = l
+by_verdict (Err r) t l = left (Err r) t
+by_verdict (Ok fine) t l = l
 
 ------ emptying
 
 -- only the lengths are checked
 unfoldable pub empty_of : Store → Left
-empty_of t = by_verdict (refuse StoreBad if not (lengths_right t) else Fine) t (left Done (emptied t))
+empty_of t = by_verdict (refuse StoreBad if not (lengths_right t) else Ok tt) t (left (Ok tt) (emptied t))
 
 ------ what both inserts have: x is the id, z its nullifier, ps its parents
 
@@ -46,7 +53,7 @@ unfoldable pub room_verdict : Store → Id → List Id → ℕ → Verdict
 room_verdict t x ps p =
     refuse NameRoom if no_name_room t (called x ps) (suc (length ps)) else
     (refuse ChildRoom if no_child_room t (length ps) else
-    (refuse NullifierRoom if no_null_room t p else Fine))
+    (refuse NullifierRoom if no_null_room t p else Ok tt))
 
 -- the call's ids are named, and the mark is cleared
 abbrev pub begun : Store → Id → List Id → Store
@@ -90,13 +97,13 @@ pick_walked false a b = b
 -- the parents in order, n of them from the i-th, by name: each held one gets the child c, and the first unheld one stops.
 -- The earlier entries stay
 unfoldable pub entered : Store → ℕ → (ℕ → ℕ) → ℕ → ℕ → Walked
-entered t c ns i zero = walked Passed t
-entered t c ns i (suc n) = pick_walked (held t (ns i)) (entered (with_child t (ns i) c) c ns (i + 1) n) (walked (Stopped i) t)
+entered t c ns i zero = walked (Ok tt) t
+entered t c ns i (suc n) = pick_walked (held t (ns i)) (entered (with_child t (ns i) c) c ns (i + 1) n) (walked (Err i) t)
 
 -- refusal 6 at an unheld parent; nullifier and record are stored where all parents were held
 abbrev pub stored_if : Entered → Store → ℕ → Id → (ℕ → ℕ) → ℕ → Left
-stored_if Passed t c z ns k = left Done (kept_new t c z ns k)
-stored_if (Stopped i) t c z ns k = left (Refused (MissingParent i)) t
+stored_if (Ok passed) t c z ns k = left (Ok tt) (kept_new t c z ns k)
+stored_if (Err i) t c z ns k = left (Err (MissingParent i)) t
 
 abbrev pub after_walk : Walked → ℕ → Id → (ℕ → ℕ) → ℕ → Left
 after_walk w c z ns k = stored_if w.way w.parts c z ns k
@@ -150,4 +157,4 @@ genesis_done t x z ps =
     kept (held_entered (begun t x ps) (own_name t x ps) (parent_name t x ps) (length ps)) (own_name t x ps) z (parent_name t x ps) (length ps)
 
 unfoldable pub genesis_of : Store → Id → Id → List Id → Left
-genesis_of t x z ps = by_verdict (genesis_verdict t x z ps) t (left Done (genesis_done t x z ps))
+genesis_of t x z ps = by_verdict (genesis_verdict t x z ps) t (left (Ok tt) (genesis_done t x z ps))

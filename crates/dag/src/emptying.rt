@@ -1,25 +1,19 @@
 // Emptying.
 ghost use Rattle.std.specs.Prelude.{◌≡◌};
-ghost use Rattle.store.specs.Tables.{store};
+ghost use Rattle.store.specs.Parts.{store_in, SameSlices};
 ghost use Rattle.dag.specs.Rules.{left, empty_of};
 
-use crate::answers::{DagRefusal, Reply};
+use crate::answers::DagRefusal;
+use store::Parts;
 
 // Only the lengths are checked, so that any parts of the right lengths can be made a store.
-pub fn empty(
-    head: &mut [u32],
-    keys: &[u32],
-    rests: &[u8],
-    nodes: &[u16],
-    links: &[u32],
-    nonces: &[u64],
-    tips: &[u64],
-) -> Reply
-    ensures { left result (store head.new keys.now rests.now nodes.now links.now nonces.now tips.now) ≡ empty_of (store head.old keys.now rests.now nodes.now links.now nonces.now tips.now) }
+pub fn empty(parts: &mut Parts) -> Result<(), DagRefusal>
+    ensures left { left result (store_in parts.new) ≡ empty_of (store_in parts.old) }
+    ensures same { SameSlices parts.old parts.new }
 {
-    if !store::lengths_right(head, keys, rests, nodes, links, nonces, tips) {
-        return Reply::Refused(DagRefusal::StoreBad);
+    if !parts.lengths_right() {
+        return Err(DagRefusal::StoreBad);
     }
-    store::empty_head(head);
-    Reply::Done
+    parts.empty_head();
+    Ok(())
 }

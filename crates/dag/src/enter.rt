@@ -1,92 +1,66 @@
-// The steps of an insert that was not refused: entries for the parents, then the nullifier and the record.
-ghost use Rattle.std.specs.Prelude.{◌≡◌, List, ℕ, ◌+◌, ◌<◌, get_or};
-ghost use Rattle.store.specs.Limits.{name_limit, child_limit};
-ghost use Rattle.store.specs.Tables.{store, held};
-ghost use Rattle.dag.specs.Rules.{walked, entered, entered_if, held_entered, kept_new};
+// The steps of an insert that was not refused: names, then entries for the parents, then the nullifier and the record. Those
+// after the first have the record's own name, child, and those of its parents.
+ghost use Rattle.std.specs.Prelude.{◌≡◌, ◌+◌, ◌≤◌, suc, length, get_or};
+ghost use Rattle.store.specs.Limits.{name_limit, parent_limit};
+ghost use Rattle.store.specs.Tables.{names};
+ghost use Rattle.store.specs.Facts.{Sound};
+ghost use Rattle.store.specs.Parts.{store_in, SameSlices};
+ghost use Rattle.naming.specs.Naming.{called};
+ghost use Rattle.naming.specs.Located.{Locates};
+ghost use Rattle.dag.specs.Rules.{begun, walked, entered, held_entered, kept_new};
 ghost use Rattle.dag.specs.Begun.{Enterable, Keepable};
 
-use crate::answers::Entered;
-use store::limits::*;
+use crate::transaction::Transaction;
+use naming::Located;
+use store::Parts;
 
-// Whether name n has a record.
-pub fn is_held(links: &[u32], n: usize) -> bool
-    requires { n < name_limit }
-    ensures { (h k s d o p : List ℕ) → result ≡ held (store h k s d links.now o p) n }
+// The ids named, and the mark cleared.
+pub fn begin(parts: &mut Parts, tx: &Transaction, at: Located)
+    requires { (Sound (store_in parts.old) × (length tx.now.parents.now ≤ parent_limit)) × (Locates (store_in parts.old) (called tx.now.id.now tx.now.parents.now) (suc (length tx.now.parents.now)) at × (names (store_in parts.old) + at.fresh ≤ name_limit)) }
+    ensures left { store_in parts.new ≡ begun (store_in parts.old) tx.now.id.now tx.now.parents.now }
+    ensures same { SameSlices parts.old parts.new }
 {
-    0 < cells::at(links, PLACES_AT + n)
+    naming::name_all(parts, &tx.ids(), at);
+    parts.unmark();
 }
 
-// The parents in order, by number from place 1 on: each held one gets the child entry, and the first unheld one stops.
-pub fn enter(
-    head: &mut [u32],
-    nodes: &mut [u16],
-    links: &mut [u32],
-    numbers: [u16; 17],
-    k: usize,
-) -> Entered
-    requires { Enterable head.old numbers k }
-    ensures { (ks rs o p : List ℕ) → walked result (store head.new ks rs nodes.new links.new o p) ≡ entered (store head.old ks rs nodes.old links.old o p) (get_or numbers 0 0) (λ j. get_or numbers (1 + j) 0) 0 k }
+// The parents in order: each held one gets the child entry, and the first unheld one stops, with its place.
+pub fn enter(parts: &mut Parts, child: u16, parents: &[u16]) -> Result<(), usize>
+    requires { Enterable (store_in parts.old) parents.now }
+    ensures left { walked result (store_in parts.new) ≡ entered (store_in parts.old) child (λ j. get_or parents.now j 0) 0 (length parents.now) }
+    ensures same { SameSlices parts.old parts.new }
 {
-    let list = numbers;
-    let child = list[0];
-    let mut i: usize = 0;
-    while i < k {
-        let parent = list[1 + i] as usize;
-        if !is_held(links, parent) {
-            return Entered::Stopped(i);
+    for (i, parent) in parents.iter().enumerate() {
+        let name = *parent as usize;
+        if !parts.is_held(name) {
+            return Err(i);
         }
-        store::add_child(head, nodes, links, parent, child);
-        i += 1;
+        parts.add_child(name, child);
     }
-    Entered::Passed
-}
-
-// A child entry for name p, if it is held.
-fn enter_one(head: &mut [u32], nodes: &mut [u16], links: &mut [u32], p: usize, child: u16)
-    requires { (get_or head.old 1 0 < child_limit) × (p < name_limit) }
-    ensures { (ks rs o s : List ℕ) → store head.new ks rs nodes.new links.new o s ≡ entered_if (store head.old ks rs nodes.old links.old o s) p child }
-{
-    if is_held(links, p) {
-        store::add_child(head, nodes, links, p, child);
-    }
+    Ok(())
 }
 
 // The same list gone through to its end: only held parents get entries.
-pub fn enter_held(
-    head: &mut [u32],
-    nodes: &mut [u16],
-    links: &mut [u32],
-    numbers: [u16; 17],
-    k: usize,
-)
-    requires { Enterable head.old numbers k }
-    ensures { (ks rs o p : List ℕ) → store head.new ks rs nodes.new links.new o p ≡ held_entered (store head.old ks rs nodes.old links.old o p) (get_or numbers 0 0) (λ j. get_or numbers (1 + j) 0) k }
+pub fn enter_held(parts: &mut Parts, child: u16, parents: &[u16])
+    requires { Enterable (store_in parts.old) parents.now }
+    ensures left { store_in parts.new ≡ held_entered (store_in parts.old) child (λ j. get_or parents.now j 0) (length parents.now) }
+    ensures same { SameSlices parts.old parts.new }
 {
-    let list = numbers;
-    let child = list[0];
-    let mut i: usize = 0;
-    while i < k {
-        enter_one(head, nodes, links, list[1 + i] as usize, child);
-        i += 1;
+    for parent in parents {
+        let name = *parent as usize;
+        if parts.is_held(name) {
+            parts.add_child(name, child);
+        }
     }
 }
 
 // A new nullifier, and the record with it.
-pub fn keep_new(
-    head: &mut [u32],
-    keys: &mut [u32],
-    rests: &mut [u8],
-    nodes: &mut [u16],
-    links: &mut [u32],
-    nullifier: &[u8; 32],
-    numbers: [u16; 17],
-    k: usize,
-)
-    requires { Keepable head.old keys.old rests.old numbers k }
-    ensures { (o p : List ℕ) → store head.new keys.new rests.new nodes.new links.new o p ≡ kept_new (store head.old keys.old rests.old nodes.old links.old o p) (get_or numbers 0 0) nullifier.now (λ j. get_or numbers (1 + j) 0) k }
+pub fn keep_new(parts: &mut Parts, nullifier: &[u8; 32], child: u16, parents: &[u16])
+    requires { Keepable (store_in parts.old) child parents.now }
+    ensures left { store_in parts.new ≡ kept_new (store_in parts.old) child nullifier.now (λ j. get_or parents.now j 0) (length parents.now) }
+    ensures same { SameSlices parts.old parts.new }
 {
-    let list = numbers;
-    let place = cells::at(head, SPENT) as usize;
-    store::keep_null(head, keys, rests, nullifier);
-    store::keep_record(nodes, links, list[0] as usize, place, list, k);
+    let place = parts.spent() as usize;
+    parts.keep_null(nullifier);
+    parts.keep_record(child as usize, place, parents);
 }

@@ -1,14 +1,17 @@
-// The checks of the inserts: the first that fails is the answer. They read only.
-ghost use Rattle.std.specs.Prelude.{◌≡◌, List, ℕ, ◌≤◌, length, get_or};
-ghost use Rattle.store.specs.Limits.{parent_limit, child_limit};
-ghost use Rattle.store.specs.Tables.{store, place_of, is_spent};
-ghost use Rattle.naming.specs.Naming.{NameParts};
+// The checks of the inserts, in the order in which their refusals are numbered. They read only.
+ghost use Rattle.std.specs.Prelude.{◌≡◌, ◌≤◌, length};
+ghost use Rattle.store.specs.Limits.{parent_limit};
+ghost use Rattle.store.specs.Tables.{place_of, is_spent};
+ghost use Rattle.store.specs.Facts.{Sound};
+ghost use Rattle.store.specs.Parts.{store_in};
 ghost use Rattle.dag.specs.Rules.{room_verdict, insert_verdict, places_wanted, genesis_verdict};
 ghost use Rattle.dag.specs.Judging.{Judges};
-ghost use Rattle.dag.specs.Begun.{NullParts};
+ghost use Rattle.dag.specs.Begun.{NullsRight};
 
-use crate::answers::{DagRefusal, Verdict};
+use crate::answers::DagRefusal;
+use crate::transaction::Transaction;
 use naming::Located;
+use store::Parts;
 use store::limits::*;
 
 // The fewest and the most parents of a plain insert.
@@ -16,143 +19,87 @@ pub const FEWEST_PARENTS: usize = 2;
 
 pub const MOST_PARENTS: usize = 8;
 
-// A verdict, and where the call's ids are if it is fine.
-#[derive(Clone, Copy)]
-pub struct Judged {
-    pub verdict: Verdict,
-    pub at: Located,
-}
-
-// A refusal, with nothing located.
-fn refused(r: DagRefusal) -> Judged
-    ensures { result.verdict ≡ Verdict.Refuse r }
-{
-    Judged {
-        verdict: Verdict::Refuse(r),
-        at: Located {
-            numbers: [0u16; 17],
-            new: [false; 17],
-            fresh: 0,
-        },
-    }
-}
-
 // The place of a nullifier.
-pub fn place_of(head: &[u32], keys: &[u32], rests: &[u8], z: &[u8; 32]) -> Option<usize>
-    requires { NullParts head.now keys.now rests.now }
-    ensures { (n l o p : List ℕ) → result ≡ place_of (store head.now keys.now rests.now n l o p) z.now }
+pub fn place_of(parts: &Parts, z: &[u8; 32]) -> Option<usize>
+    requires { NullsRight (store_in parts.now) }
+    ensures { result ≡ place_of (store_in parts.now) z.now }
 {
-    cells::find_id(keys, rests, NULLS_AT, cells::at(head, SPENT) as usize, z)
+    cells::find_id(parts.keys, parts.rests, NULLS_AT, parts.spent() as usize, z)
 }
 
-fn is_spent(head: &[u32], keys: &[u32], rests: &[u8], z: &[u8; 32]) -> bool
-    requires { NullParts head.now keys.now rests.now }
-    ensures { (n l o p : List ℕ) → result ≡ is_spent (store head.now keys.now rests.now n l o p) z.now }
+fn is_spent(parts: &Parts, z: &[u8; 32]) -> bool
+    requires { NullsRight (store_in parts.now) }
+    ensures { result ≡ is_spent (store_in parts.now) z.now }
 {
-    place_of(head, keys, rests, z).is_some()
+    place_of(parts, z).is_some()
 }
 
 // How many places a genesis insert needs for its nullifier.
-fn places_wanted(head: &[u32], keys: &[u32], rests: &[u8], z: &[u8; 32]) -> usize
-    requires { NullParts head.now keys.now rests.now }
-    ensures { (n l o p : List ℕ) → result ≡ places_wanted (place_of (store head.now keys.now rests.now n l o p) z.now) }
+fn places_wanted(parts: &Parts, z: &[u8; 32]) -> usize
+    requires { NullsRight (store_in parts.now) }
+    ensures { result ≡ places_wanted (place_of (store_in parts.now) z.now) }
 {
-    match place_of(head, keys, rests, z) {
-        Some(_) => 0,
-        None => 1,
-    }
+    usize::from(place_of(parts, z).is_none())
 }
 
-// Checks 7, 8 and 9, with the call's ids located on the way.
-fn judge_room(
-    head: &[u32],
-    keys: &[u32],
-    rests: &[u8],
-    id: &[u8; 32],
-    parents: &[[u8; 32]],
-    places: usize,
-) -> Judged
-    requires { (NameParts head.now keys.now rests.now × NullParts head.now keys.now rests.now) × ((get_or head.now 1 0 ≤ child_limit) × (length parents.now ≤ parent_limit)) }
-    ensures { (n l o p : List ℕ) → Judges (store head.now keys.now rests.now n l o p) id.now parents.now (room_verdict (store head.now keys.now rests.now n l o p) id.now parents.now places) result }
+// Checks 7, 8 and 9: room for names, child entries and nullifiers. The call's ids are located on the way.
+fn judge_room(parts: &Parts, tx: &Transaction, places: usize) -> Result<Located, DagRefusal>
+    requires { Sound (store_in parts.now) × (length tx.now.parents.now ≤ parent_limit) }
+    ensures { Judges (store_in parts.now) tx.now.id.now tx.now.parents.now (room_verdict (store_in parts.now) tx.now.id.now tx.now.parents.now places) result }
 {
-    let at = naming::locate(head, keys, rests, id, parents);
-    let used = store::Counts::of(head);
+    let at = naming::locate(parts, &tx.ids());
+    let used = parts.counts();
     if NAME_LIMIT - used.names < at.fresh {
-        return refused(DagRefusal::NameRoom);
+        return Err(DagRefusal::NameRoom);
     }
-    if CHILD_LIMIT - used.entries < parents.len() {
-        return refused(DagRefusal::ChildRoom);
+    if CHILD_LIMIT - used.entries < tx.parents.len() {
+        return Err(DagRefusal::ChildRoom);
     }
     if NULL_LIMIT - used.spent < places {
-        return refused(DagRefusal::NullifierRoom);
+        return Err(DagRefusal::NullifierRoom);
     }
-    Judged {
-        verdict: Verdict::Fine,
-        at: at,
-    }
+    Ok(at)
 }
 
-// Refusals 1, 2, 3, 4, 5, 7, 8 and 9 of the plain insert.
-pub fn judge_insert(
-    head: &[u32],
-    keys: &[u32],
-    rests: &[u8],
-    nodes: &[u16],
-    links: &[u32],
-    nonces: &[u64],
-    tips: &[u64],
-    id: &[u8; 32],
-    nullifier: &[u8; 32],
-    parents: &[[u8; 32]],
-) -> Judged
-    ensures { Judges (store head.now keys.now rests.now nodes.now links.now nonces.now tips.now) id.now parents.now (insert_verdict (store head.now keys.now rests.now nodes.now links.now nonces.now tips.now) id.now nullifier.now parents.now) result }
+// Refusals 1, 2, 3, 4, 5, 7, 8 and 9 of the plain insert; else where the call's ids are.
+pub fn judge_insert(parts: &Parts, tx: &Transaction) -> Result<Located, DagRefusal>
+    ensures { Judges (store_in parts.now) tx.now.id.now tx.now.parents.now (insert_verdict (store_in parts.now) tx.now.id.now tx.now.nullifier.0 tx.now.parents.now) result }
 {
-    if !store::is_sound(head, keys, rests, nodes, links, nonces, tips) {
-        return refused(DagRefusal::StoreBad);
+    if !parts.is_sound() {
+        return Err(DagRefusal::StoreBad);
     }
-    let k = parents.len();
-    if PARENT_LIMIT < k {
-        return refused(DagRefusal::ListTooLong);
+    let count = tx.parents.len();
+    if PARENT_LIMIT < count {
+        return Err(DagRefusal::ListTooLong);
     }
-    if is_spent(head, keys, rests, nullifier) {
-        return refused(DagRefusal::DuplicateNullifier);
+    if is_spent(parts, &tx.nullifier.0) {
+        return Err(DagRefusal::DuplicateNullifier);
     }
-    if MOST_PARENTS < k {
-        return refused(DagRefusal::TooManyParents {
-            count: k,
+    if MOST_PARENTS < count {
+        return Err(DagRefusal::TooManyParents {
+            count,
             limit: MOST_PARENTS,
         });
     }
-    if k < FEWEST_PARENTS {
-        return refused(DagRefusal::TooFewParents {
-            count: k,
+    if count < FEWEST_PARENTS {
+        return Err(DagRefusal::TooFewParents {
+            count,
             limit: FEWEST_PARENTS,
         });
     }
-    judge_room(head, keys, rests, id, parents, 1)
+    judge_room(parts, tx, 1)
 }
 
-// Refusals 1, 2, 7, 8 and 9 of the genesis insert.
-pub fn judge_genesis(
-    head: &[u32],
-    keys: &[u32],
-    rests: &[u8],
-    nodes: &[u16],
-    links: &[u32],
-    nonces: &[u64],
-    tips: &[u64],
-    id: &[u8; 32],
-    nullifier: &[u8; 32],
-    parents: &[[u8; 32]],
-) -> Judged
-    ensures { Judges (store head.now keys.now rests.now nodes.now links.now nonces.now tips.now) id.now parents.now (genesis_verdict (store head.now keys.now rests.now nodes.now links.now nonces.now tips.now) id.now nullifier.now parents.now) result }
+// Refusals 1, 2, 7, 8 and 9 of the genesis insert; else where the call's ids are.
+pub fn judge_genesis(parts: &Parts, tx: &Transaction) -> Result<Located, DagRefusal>
+    ensures { Judges (store_in parts.now) tx.now.id.now tx.now.parents.now (genesis_verdict (store_in parts.now) tx.now.id.now tx.now.nullifier.0 tx.now.parents.now) result }
 {
-    if !store::is_sound(head, keys, rests, nodes, links, nonces, tips) {
-        return refused(DagRefusal::StoreBad);
+    if !parts.is_sound() {
+        return Err(DagRefusal::StoreBad);
     }
-    if PARENT_LIMIT < parents.len() {
-        return refused(DagRefusal::ListTooLong);
+    if PARENT_LIMIT < tx.parents.len() {
+        return Err(DagRefusal::ListTooLong);
     }
-    let places = places_wanted(head, keys, rests, nullifier);
-    judge_room(head, keys, rests, id, parents, places)
+    let places = places_wanted(parts, &tx.nullifier.0);
+    judge_room(parts, tx, places)
 }

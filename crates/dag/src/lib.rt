@@ -1,5 +1,5 @@
 // The store's first calls: emptying, the plain insert and the genesis insert. Each call checks all before it changes anything,
-// a refusal for an unheld parent aside.
+// a refusal for an unheld parent aside: the names and the entries of the parents before it stay.
 #![tactic(auto)]
 
 pub mod answers;
@@ -8,7 +8,9 @@ mod enter;
 mod judge;
 mod plain;
 mod roots;
+mod transaction;
 
 pub use emptying::empty;
 pub use plain::insert;
 pub use roots::genesis;
+pub use transaction::Transaction;

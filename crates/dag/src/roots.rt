@@ -1,76 +1,42 @@
 // The genesis insert.
 ghost use Rattle.std.specs.Prelude.{◌≡◌, suc, length};
-ghost use Rattle.store.specs.Tables.{store, place_of};
+ghost use Rattle.store.specs.Tables.{place_of};
+ghost use Rattle.store.specs.Parts.{store_in, SameSlices};
 ghost use Rattle.naming.specs.Naming.{called};
 ghost use Rattle.naming.specs.Located.{Locates};
 ghost use Rattle.dag.specs.Judging.{Room};
 ghost use Rattle.dag.specs.Rules.{left, places_wanted, genesis_done, genesis_of};
 
-use crate::answers::{Reply, Verdict};
-use crate::enter::{enter_held, keep_new};
+use crate::answers::DagRefusal;
+use crate::enter::{begin, enter_held, keep_new};
 use crate::judge::{judge_genesis, place_of};
-use ident::Nullifier;
+use crate::transaction::Transaction;
 use naming::Located;
+use store::Parts;
 
 // All that is left once the checks are passed: names, entries for the parents that are held, the record, and its nullifier
 // unless that is there already.
-fn apply_genesis(
-    head: &mut [u32],
-    keys: &mut [u32],
-    rests: &mut [u8],
-    nodes: &mut [u16],
-    links: &mut [u32],
-    nonces: &mut [u64],
-    tips: &mut [u64],
-    id: &[u8; 32],
-    nullifier: &[u8; 32],
-    parents: &[[u8; 32]],
-    at: Located,
-)
-    requires { Room (store head.old keys.old rests.old nodes.old links.old nonces.old tips.old) id.now parents.now (places_wanted (place_of (store head.old keys.old rests.old nodes.old links.old nonces.old tips.old) nullifier.now)) × Locates (store head.old keys.old rests.old nodes.old links.old nonces.old tips.old) (called id.now parents.now) (suc (length parents.now)) at }
-    ensures { store head.new keys.new rests.new nodes.new links.new nonces.new tips.new ≡ genesis_done (store head.old keys.old rests.old nodes.old links.old nonces.old tips.old) id.now nullifier.now parents.now }
+fn apply_genesis(parts: &mut Parts, tx: &Transaction, at: Located)
+    requires { Room (store_in parts.old) tx.now.id.now tx.now.parents.now (places_wanted (place_of (store_in parts.old) tx.now.nullifier.0)) × Locates (store_in parts.old) (called tx.now.id.now tx.now.parents.now) (suc (length tx.now.parents.now)) at }
+    ensures left { store_in parts.new ≡ genesis_done (store_in parts.old) tx.now.id.now tx.now.nullifier.0 tx.now.parents.now }
+    ensures same { SameSlices parts.old parts.new }
 {
-    naming::name_all(
-        head, keys, rests, nodes, links, nonces, tips, id, parents, at,
-    );
-    store::unmark(head);
-    let numbers = at.numbers;
-    let k = parents.len();
-    enter_held(head, nodes, links, numbers, k);
-    match place_of(head, keys, rests, nullifier) {
-        Some(p) => store::keep_record(nodes, links, numbers[0] as usize, p, numbers, k),
-        None => keep_new(head, keys, rests, nodes, links, nullifier, numbers, k),
+    begin(parts, tx, at);
+    let child = at.numbers[0];
+    let names = &at.numbers[1..=tx.parents.len()];
+    enter_held(parts, child, names);
+    match place_of(parts, &tx.nullifier.0) {
+        Some(place) => parts.keep_record(child as usize, place, names),
+        None => keep_new(parts, &tx.nullifier.0, child, names),
     }
 }
 
 // A record with 0 to 16 parents, held or not; its nullifier may be there already.
-pub fn genesis(
-    head: &mut [u32],
-    keys: &mut [u32],
-    rests: &mut [u8],
-    nodes: &mut [u16],
-    links: &mut [u32],
-    nonces: &mut [u64],
-    tips: &mut [u64],
-    id: &[u8; 32],
-    nullifier: Nullifier,
-    parents: &[[u8; 32]],
-) -> Reply
-    ensures { left result (store head.new keys.new rests.new nodes.new links.new nonces.new tips.new) ≡ genesis_of (store head.old keys.old rests.old nodes.old links.old nonces.old tips.old) id.now nullifier.0 parents.now }
+pub fn genesis(parts: &mut Parts, tx: &Transaction) -> Result<(), DagRefusal>
+    ensures left { left result (store_in parts.new) ≡ genesis_of (store_in parts.old) tx.now.id.now tx.now.nullifier.0 tx.now.parents.now }
+    ensures same { SameSlices parts.old parts.new }
 {
-    let z = nullifier.0;
-    let judged = judge_genesis(
-        head, keys, rests, nodes, links, nonces, tips, id, &z, parents,
-    );
-    let verdict = judged.verdict;
-    match verdict {
-        Verdict::Refuse(r) => Reply::Refused(r),
-        Verdict::Fine => {
-            let at = judged.at;
-            apply_genesis(
-                head, keys, rests, nodes, links, nonces, tips, id, &z, parents, at,
-            );
-            Reply::Done
-        }
-    }
+    let at = judge_genesis(parts, tx)?;
+    apply_genesis(parts, tx, at);
+    Ok(())
 }

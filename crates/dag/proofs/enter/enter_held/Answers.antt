@@ -1,54 +1,28 @@
-use Prim.Native.Nat.{◌+◌}
-use mathlib.Core.Path.{ap, ◌∙◌}
-use mathlib.Core.List.{[]}
-use native.Mathlib.Omega.{arith}
-use lib.ListN.{get_or}
-use Rattle.store.specs.Tables.{Store, store, entries}
-use Rattle.dag.proofs.Entering.{held_start, held_step, held_end, if_count}
-use borrow.Author.Rules.{rules}
+use Rattle.std.proofs.Common.{◌≡◌, ◌∙◌, length, get_or, ap, arith}
+use Rattle.store.specs.Tables.{Store, entries}
+use Rattle.store.specs.Parts.{store_in, SameSlices, same_start, same_then}
+use Rattle.dag.specs.Rules.{entered_if}
+use Rattle.dag.proofs.Entering.{held_start, held_step, if_count, if_long, if_held, if_unheld}
 use Rattle.dag.proofs.enter.enter_held.Goals as goal
+use Rattle.dag.proofs.enter.enter_held.Goals.{then-is_held, else-is_held}
 
-pub loop-i-init : goal.loop-i-init
-loop-i-init c =
-    let pre = c.requires in
-    (search rules, pre.head_long, omega (arith, pre.room), search rules, search rules, λ ks rs o p. held_start _ _ _)
+pub loop-parent-init : goal.loop-parent-init
+loop-parent-init c = (c.requires.head_long, omega (arith, c.requires.room), same_start _, held_start _ _ _)
 
-pub bounds-list-i : goal.bounds-list-i
-bounds-list-i c =
-    let pre = c.requires in
-    omega (arith, pre.few)
-
-pub overflow_cast-list : goal.overflow_cast-list
-overflow_cast-list c =
-    let pre = c.requires in
-    let the-loop = c.loop-i in
-    let loop-test = c.loop-i-test in
-    omega (arith, pre.named the-loop.i loop-test.true)
-
-pub enter_one-requires : goal.enter_one-requires
-enter_one-requires c =
-    let pre = c.requires in
-    let the-loop = c.loop-i in
-    let loop-test = c.loop-i-test in
-    (omega arith, pre.named the-loop.i loop-test.true)
-
-pub loop-i-preserved : goal.loop-i-preserved
-loop-i-preserved c =
-    let enter_one = c.enter_one in
-    let the-loop = c.loop-i in
-    let args = c.args in (
-      omega arith,
-      enter_one.auto.head ∙ the-loop.invariant.1,
-      omega (arith, ap (λ (s : Store). entries s) (enter_one.ensures [] [] [] []), if_count (store the-loop.head [] [] the-loop.nodes the-loop.links [] []) (get_or args.numbers (1 + the-loop.i) 0) (get_or args.numbers 0 0) the-loop.invariant.1),
-      enter_one.auto.nodes ∙ the-loop.invariant.3,
-      enter_one.auto.links ∙ the-loop.invariant.4,
-      λ ks rs o p. held_step (store args.head.now ks rs args.nodes.now args.links.now o p) (store the-loop.head ks rs the-loop.nodes the-loop.links o p) _ (get_or args.numbers 0 0) (λ j. get_or args.numbers (1 + j) 0) the-loop.i (the-loop.invariant.5 ks rs o p) (enter_one.ensures ks rs o p),
+pub loop-parent-preserved : goal.loop-parent-preserved
+loop-parent-preserved c =
+    let t = store_in c.loop-parent.parts in
+    let p = get_or c.args.parents.now c.loop-parent.parent-index 0 in
+    let entry : store_in c.if-is_held.parts ≡ entered_if t p c.args.child =
+    elim c.if-is_held.branch [
+      | then-is_held w ↦ ap store_in w.parts-is ∙ if_held t p c.args.child _ c.is_held.ensures _ w.if-is_held.true w.add_child.ensures.left
+      | else-is_held w ↦ ap store_in w.parts-is ∙ if_unheld t p c.args.child _ c.is_held.ensures w.if-is_held.false
+    ] in
+    let same : SameSlices c.loop-parent.parts c.if-is_held.parts =
+    elim c.if-is_held.branch [ then-is_held w ↦ rw w.parts-is w.add_child.ensures.same | else-is_held w ↦ rw w.parts-is (same_start _) ] in
+    let before = c.loop-parent.invariant in (
+      ap (λ (u : Store). length u.head) entry ∙ if_long t p c.args.child ∙ before.0,
+      omega (arith, ap (λ (u : Store). entries u) entry, if_count t p c.args.child before.0, before.1, c.loop-parent-test.true),
+      same_then before.2 same,
+      held_step (store_in c.args.parts.now) t (store_in c.if-is_held.parts) c.args.child (λ j. get_or c.args.parents.now j 0) c.loop-parent.parent-index before.3 entry,
     )
-
-pub returns : goal.returns
-returns c =
-    let args = c.args in
-    let the-loop = c.loop-i in
-    let loop-test = c.loop-i-test in
-    λ ks rs o p.
-    held_end (store args.head.now ks rs args.nodes.now args.links.now o p) (store the-loop.head ks rs the-loop.nodes the-loop.links o p) (get_or args.numbers 0 0) (λ j. get_or args.numbers (1 + j) 0) the-loop.i args.k the-loop.invariant.0 loop-test.false (the-loop.invariant.5 ks rs o p)

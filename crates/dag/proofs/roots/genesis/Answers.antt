@@ -1,73 +1,18 @@
 -- The verdict, and what is left where it is fine.
-use native.Mathlib.Omega.{arith}
-use mathlib.Core.Path.{sym, ◌∙◌}
-use Rattle.store.specs.Tables.{store}
-use Rattle.dag.specs.Judging.{genesis_fine}
-use Rattle.dag.proofs.Entering.{genesis_done_lem, genesis_refused}
+use Rattle.store.specs.Parts.{store_in}
+use Rattle.dag.specs.Judging.{judged_err, judged_ok, genesis_fine}
+use Rattle.dag.proofs.Entering.{passed_on, genesis_refused, genesis_done_lem}
 use Rattle.dag.proofs.roots.genesis.Goals as goal
+
+pub returns-in_err-at-clause-left : goal.returns-in_err-at-clause-left
+returns-in_err-at-clause-left c =
+    let refused = judged_err _ _ _ _ _ c.judge_genesis.ensures _ c.in_err-at.was in
+    rw (passed_on _ _ c.from_residual.ensures.1) (genesis_refused (store_in c.args.parts.now) _ _ _ _ refused)
 
 pub apply_genesis-requires : goal.apply_genesis-requires
 apply_genesis-requires c =
-    let args = c.args in
-    let judge-genesis = c.judge_genesis-judged in
-    let t = store args.head.now args.keys.now args.rests.now args.nodes.now args.links.now args.nonces.now args.tips.now in
-    let x = args.id.now in
-    let ps = args.parents.now in
-    let z = args.nullifier.0 in
-    (genesis_fine t x z ps (sym judge-genesis.ensures.verdict ∙ c.in-Fine.is), judge-genesis.ensures.located (sym judge-genesis.ensures.verdict ∙ c.in-Fine.is))
+    (genesis_fine _ _ _ _ (judged_ok _ _ _ _ _ c.judge_genesis.ensures _ c.in_ok-at.was), c.judge_genesis.ensures.located _ c.in_ok-at.was)
 
-pub returns-in-Refuse : goal.returns-in-Refuse
-returns-in-Refuse c =
-    let args = c.args in
-    let judge-genesis = c.judge_genesis-judged in
-    let t = store args.head.now args.keys.now args.rests.now args.nodes.now args.links.now args.nonces.now args.tips.now in
-    let x = args.id.now in
-    let ps = args.parents.now in
-    let z = args.nullifier.0 in
-    genesis_refused t x z ps _ _ judge-genesis.ensures.verdict c.in-Refuse.is
-
-pub shape_of-head-in-Fine : goal.shape_of-head-in-Fine
-shape_of-head-in-Fine c =
-    let apply-genesis = c.apply_genesis in
-    omega (arith, apply-genesis.auto.head)
-
-pub shape_of-keys-in-Fine : goal.shape_of-keys-in-Fine
-shape_of-keys-in-Fine c =
-    let apply-genesis = c.apply_genesis in
-    omega (arith, apply-genesis.auto.keys)
-
-pub shape_of-rests-in-Fine : goal.shape_of-rests-in-Fine
-shape_of-rests-in-Fine c =
-    let apply-genesis = c.apply_genesis in
-    omega (arith, apply-genesis.auto.rests)
-
-pub shape_of-nodes-in-Fine : goal.shape_of-nodes-in-Fine
-shape_of-nodes-in-Fine c =
-    let apply-genesis = c.apply_genesis in
-    omega (arith, apply-genesis.auto.nodes)
-
-pub shape_of-links-in-Fine : goal.shape_of-links-in-Fine
-shape_of-links-in-Fine c =
-    let apply-genesis = c.apply_genesis in
-    omega (arith, apply-genesis.auto.links)
-
-pub shape_of-nonces-in-Fine : goal.shape_of-nonces-in-Fine
-shape_of-nonces-in-Fine c =
-    let apply-genesis = c.apply_genesis in
-    omega (arith, apply-genesis.auto.nonces)
-
-pub shape_of-tips-in-Fine : goal.shape_of-tips-in-Fine
-shape_of-tips-in-Fine c =
-    let apply-genesis = c.apply_genesis in
-    omega (arith, apply-genesis.auto.tips)
-
-pub returns-in-Fine : goal.returns-in-Fine
-returns-in-Fine c =
-    let args = c.args in
-    let judge-genesis = c.judge_genesis-judged in
-    let apply-genesis = c.apply_genesis in
-    let t = store args.head.now args.keys.now args.rests.now args.nodes.now args.links.now args.nonces.now args.tips.now in
-    let x = args.id.now in
-    let ps = args.parents.now in
-    let z = args.nullifier.0 in
-    genesis_done_lem t x z ps _ _ judge-genesis.ensures.verdict c.in-Fine.is apply-genesis.ensures
+pub returns-clause-left : goal.returns-clause-left
+returns-clause-left c =
+    genesis_done_lem (store_in c.args.parts.now) _ _ _ _ (judged_ok _ _ _ _ _ c.judge_genesis.ensures _ c.in_ok-at.was) c.apply_genesis.ensures.left
