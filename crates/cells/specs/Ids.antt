@@ -1,10 +1,10 @@
 -- Laws of ids and of tables of ids: `same_id` is an equivalence, the key and the rest together are the id, and what putting an id changes.
-use Prim.Native.Nat.{ℕ, zero, suc, ◌+◌, ◌-◌, ◌*◌, ◌/◌, ◌^◌, ◌≤◌, ◌<◌}
+use Prim.Native.Nat.{ℕ, zero, suc, ◌+◌, ◌-◌, ◌*◌, ◌^◌, ◌≤◌, ◌<◌}
 use Rattle.std.specs.Prelude.{◌≡◌, refl, Bool, true, false, ◌&&◌, ◌||◌, not, Some, None, List, ◌≢◌, length, set, take, eqb, ltb}
-use Rattle.std.proofs.Common.{sym, ap, ◌∙◌, true≢false, div-add-mod', mod-eq_of_lt, zero-add, arith, length-append, get_or-append-add, get_or-take, ext_get_or, eqb-true, eq-eqb, ne_eqb, ltb-true, ltb-false}
+use Rattle.std.proofs.Common.{sym, ap, ◌∙◌, true≢false, zero-add, arith, length-append, get_or-append-add, get_or-take, ext_get_or, eqb-true, eq-eqb, ne_eqb, ltb-true, ltb-false}
 use Rattle.std.proofs.Math.ListN.{get_or, length-set, get_or-append, get_or-eq_default}
 use Rattle.std.proofs.Math.Seq.{get_or-set_same, get_or-set_other}
-use Rattle.std.proofs.Math.Pow.{shr_lt, shr-shr}
+use Rattle.std.proofs.lemmas.Nat.{from_le_bytes-to_le_bytes_4}
 use Rattle.std.proofs.lemmas.Bool.{eqb-false, not-true}
 use Rattle.cells.specs.Cells.{every, first_where, pick_found, or_else, is_at, row, row_put, Id, Bytes, IsId, same_id, key_of, key_bytes, id_at, Places, keys_put, rests_put, same_rest, has_id, first_id}
 use Rattle.std.specs.Cmp.{both_ways}
@@ -59,10 +59,6 @@ differs x y e w =
 
 ------ the bytes of a key
 
--- a number by its lowest digits, and what is above them
-four_digits : (k q1 q2 q3 d0 d1 d2 d3 : ℕ) → q1 * 256 + d0 ≡ k → q2 * 256 + d1 ≡ q1 → q3 * 256 + d2 ≡ q2 → q3 ≡ d3 → k ≡ d0 + d1 * 256 + d2 * 65536 + d3 * 16777216
-four_digits k q1 q2 q3 d0 d1 d2 d3 e0 e1 e2 e3 = omega arith
-
 module _ (x : Id) (b : Bytes x) where
   key_byte : (i : ℕ) → i < 4 → get_or (key_bytes (key_of x)) i 0 ≡ get_or x i 0
   unfolding key_of
@@ -75,12 +71,7 @@ module _ (x : Id) (b : Bytes x) where
   key_of_bytes : (k : ℕ) → k < 2 ^ 32 → ((i : ℕ) → i < 4 → get_or (key_bytes k) i 0 ≡ get_or x i 0) → k ≡ key_of x
   unfolding key_of
   key_of_bytes k l f =
-      let top : k / 16777216 < 256 = shr_lt 8 24 l in
-      four_digits k (k / 256) (k / 65536) (k / 16777216) (get_or x 0 0) (get_or x 1 0) (get_or x 2 0) (get_or x 3 0)
-      (rw (← f 0 (omega arith)) (div-add-mod' k 256))
-      (rw (← f 1 (omega arith), ← shr-shr k 8 8) (div-add-mod' (k / 256) 256))
-      (rw (← f 2 (omega arith), ← shr-shr k 16 8) (div-add-mod' (k / 65536) 256))
-      (sym (mod-eq_of_lt top) ∙ f 3 (omega arith))
+      rw (← f 0 (omega arith), ← f 1 (omega arith), ← f 2 (omega arith), ← f 3 (omega arith)) (sym (from_le_bytes-to_le_bytes_4 k l))
 
   -- the four bytes are the same where the keys are
   key_same : (k : ℕ) → k < 2 ^ 32 → every (λ i. eqb (get_or (key_bytes k) i 0) (get_or x i 0)) 4 ≡ eqb k (key_of x)
