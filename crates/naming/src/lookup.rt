@@ -2,13 +2,13 @@
 ghost use Rattle.std.specs.Prelude.{◌≡◌, Some, ℕ, ◌+◌, ◌^◌, ◌≤◌, ◌<◌};
 ghost use Rattle.cells.specs.Cells.{same_id, first_where};
 ghost use Rattle.store.specs.Tables.{names, number_of};
-ghost use Rattle.store.specs.Parts.{store_in};
+ghost use Rattle.store.specs.Parts.{store_seen};
 ghost use Rattle.naming.specs.Naming.{call_limit, NamesRight};
 ghost use Rattle.naming.specs.Calls.{ids, id_count};
 ghost use Rattle.naming.specs.Located.{Locates, nowhere, with_spot, spot_of};
 
 use crate::called::Called;
-use store::Parts;
+use store::View;
 use store::limits::*;
 
 // How many ids a call has at most: the first, and a full list.
@@ -72,22 +72,22 @@ fn earlier(call: &Called, i: usize) -> Option<usize>
 }
 
 // Where one id is: at the number of its earlier place, or of its name, or at the next free one.
-fn locate_one(parts: &Parts, x: &[u8; 32], place: Option<usize>, at: Located) -> Spot
-    requires { (NamesRight (store_in parts.now) × (names (store_in parts.now) + at.fresh < 2 ^ 16)) × ((j : ℕ) → place ≡ Some j → j < call_limit) }
-    ensures { result ≡ spot_of at (names (store_in parts.now) + at.fresh) place (number_of (store_in parts.now) x.now) }
+fn locate_one(view: &View, x: &[u8; 32], place: Option<usize>, at: Located) -> Spot
+    requires { (NamesRight (store_seen view.now) × (names (store_seen view.now) + at.fresh < 2 ^ 16)) × ((j : ℕ) → place ≡ Some j → j < call_limit) }
+    ensures { result ≡ spot_of at (names (store_seen view.now) + at.fresh) place (number_of (store_seen view.now) x.now) }
 {
     match place {
         Some(j) => Spot {
             number: at.numbers[j],
             new: false,
         },
-        None => match number_of(parts, x) {
+        None => match number_of(view, x) {
             Some(n) => Spot {
                 number: n as u16,
                 new: false,
             },
             None => Spot {
-                number: (parts.names() as usize + at.fresh) as u16,
+                number: (view.names() as usize + at.fresh) as u16,
                 new: true,
             },
         },
@@ -95,21 +95,21 @@ fn locate_one(parts: &Parts, x: &[u8; 32], place: Option<usize>, at: Located) ->
 }
 
 // The number of the id x: of equal names the lowest counts.
-pub fn number_of(parts: &Parts, x: &[u8; 32]) -> Option<usize>
-    requires { NamesRight (store_in parts.now) }
-    ensures { result ≡ number_of (store_in parts.now) x.now }
+pub fn number_of(view: &View, x: &[u8; 32]) -> Option<usize>
+    requires { NamesRight (store_seen view.now) }
+    ensures { result ≡ number_of (store_seen view.now) x.now }
 {
-    cells::find_id(parts.keys, parts.rests, NAMES_AT, parts.names() as usize, x)
+    cells::find_id(view.keys, view.rests, NAMES_AT, view.names() as usize, x)
 }
 
 // Where the ids of a call are: each is compared with the ids before it, and then searched for among the names.
-pub fn locate(parts: &Parts, call: &Called) -> Located
-    requires { NamesRight (store_in parts.now) × (id_count call.now ≤ call_limit) }
-    ensures { Locates (store_in parts.now) (ids call.now) (id_count call.now) result }
+pub fn locate(view: &View, call: &Called) -> Located
+    requires { NamesRight (store_seen view.now) × (id_count call.now ≤ call_limit) }
+    ensures { Locates (store_seen view.now) (ids call.now) (id_count call.now) result }
 {
     let mut at = Located::nowhere();
     for i in 0..call.count() {
-        at = at.with(i, locate_one(parts, call.get(i), earlier(call, i), at));
+        at = at.with(i, locate_one(view, call.get(i), earlier(call, i), at));
     }
     at
 }

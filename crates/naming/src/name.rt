@@ -22,7 +22,7 @@ fn list_if(parts: &mut Parts, x: &[u8; 32], new: bool)
     ensures same { SameSlices parts.old parts.new }
 {
     if new {
-        let n = parts.names();
+        let n = parts.view().names();
         cells::put_id(parts.keys, parts.rests, NAMES_AT + n as usize, x);
         cells::put(parts.head, NAMES, n + 1);
     }
@@ -89,7 +89,7 @@ pub fn name_all(parts: &mut Parts, call: &Called, at: Located)
     ensures left { store_in parts.new ≡ named (store_in parts.old) (ids call.now) (id_count call.now) }
     ensures same { SameSlices parts.old parts.new }
 {
-    let first = parts.names() as usize;
+    let first = parts.view().names() as usize;
     list_all(parts, call, at.new);
     clear_rows(parts, first, at.fresh);
 }

@@ -3,10 +3,14 @@ use Rattle.std.specs.Prelude.{◌≡◌, refl}
 use Rattle.std.proofs.Common.{◌∙◌}
 use Rattle.store.specs.Tables.{Store, store}
 use Rattle.store.specs.declared.parts.Parts.{Parts}
+use Rattle.store.specs.declared.parts.View.{View}
 
 -- what the parts hold
 abbrev pub store_in : Parts → Store
 store_in p = store p.head.now p.keys.now p.rests.now p.nodes.now p.links.now p.nonces.now p.tips.now
+
+abbrev pub store_seen : View → Store
+store_seen v = store v.head.now v.keys.now v.rests.now v.nodes.now v.links.now v.nonces.now v.tips.now
 
 -- a call hands the caller back the very slices that were lent, so what it left in the parts is what the caller's slices hold
 pub record SameSlices (before after : Parts) : Type 0 where

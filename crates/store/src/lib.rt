@@ -8,5 +8,6 @@ mod sound;
 mod updates;
 mod views;
 
-pub use parts::Parts;
+pub use parts::{Parts, View};
 pub use sound::Counts;
+pub use updates::empty_head;

@@ -3,11 +3,11 @@
 ghost use Rattle.std.specs.Prelude.{◌≡◌, length};
 ghost use Rattle.store.specs.Limits.{nodes_length, links_length};
 ghost use Rattle.store.specs.Tables.{used};
-ghost use Rattle.store.specs.Parts.{store_in};
+ghost use Rattle.store.specs.Parts.{store_seen};
 ghost use Rattle.store.specs.Sound.{Within, lengths_right, head_right, nodes_columns, links_columns, all_right, sound};
 
 use crate::limits::*;
-use crate::parts::Parts;
+use crate::parts::View;
 
 // How far each table is in use.
 #[derive(Clone, Copy, Debug, PartialEq, Eq)]
@@ -34,10 +34,10 @@ impl Counts {
     }
 }
 
-impl Parts<'_> {
+impl View<'_> {
     // How far each table is in use, as the head says.
     pub fn counts(&self) -> Counts
-        ensures { result ≡ used (store_in self.now) }
+        ensures { result ≡ used (store_seen self.now) }
     {
         Counts {
             names: self.names() as usize,
@@ -51,7 +51,7 @@ impl Parts<'_> {
 
     // Whether each part has its stated length.
     pub fn lengths_right(&self) -> bool
-        ensures { result ≡ lengths_right (store_in self.now) }
+        ensures { result ≡ lengths_right (store_seen self.now) }
     {
         (self.head.len() == HEAD_LENGTH)
             & (self.keys.len() == KEYS_LENGTH)
@@ -64,7 +64,7 @@ impl Parts<'_> {
 
     // Whether the store is not bad.
     pub fn is_sound(&self) -> bool
-        ensures { result ≡ sound (store_in self.now) }
+        ensures { result ≡ sound (store_seen self.now) }
     {
         if !self.lengths_right() {
             return false;

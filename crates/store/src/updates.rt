@@ -1,7 +1,7 @@
 // The single changes that a call is made of.
-ghost use Rattle.std.specs.Prelude.{◌≡◌, ◌≤◌, ◌<◌, length, get_or};
+ghost use Rattle.std.specs.Prelude.{◌≡◌, List, ℕ, ◌≤◌, ◌<◌, length, get_or};
 ghost use Rattle.store.specs.Limits.{name_limit, parent_limit, child_limit, null_limit, keys_length, rests_length};
-ghost use Rattle.store.specs.Tables.{entries, spent, with_child, with_null, with_record, unmarked, emptied};
+ghost use Rattle.store.specs.Tables.{store, entries, spent, with_child, with_null, with_record, unmarked, emptied};
 ghost use Rattle.store.specs.Parts.{store_in, SameSlices};
 
 use crate::limits::*;
@@ -14,8 +14,8 @@ impl Parts<'_> {
         ensures left { store_in self.new ≡ with_child (store_in self.old) p c }
         ensures same { SameSlices self.old self.new }
     {
-        let e = self.entries();
-        let last = self.last_entry(p);
+        let e = self.view().entries();
+        let last = self.view().last_entry(p);
         cells::put(self.nodes, CHILDREN_AT + e as usize, c);
         cells::put(self.links, PREVIOUS_AT + e as usize, last);
         cells::put(self.links, LASTS_AT + p, e + 1);
@@ -28,7 +28,7 @@ impl Parts<'_> {
         ensures left { store_in self.new ≡ with_null (store_in self.old) z.now }
         ensures same { SameSlices self.old self.new }
     {
-        let e = self.spent();
+        let e = self.view().spent();
         cells::put_id(self.keys, self.rests, NULLS_AT + e as usize, z);
         cells::put(self.head, SPENT, e + 1);
     }
@@ -51,13 +51,12 @@ impl Parts<'_> {
     {
         cells::put(self.head, MARK, 0);
     }
+}
 
-    // All counts 0, and the mark set.
-    pub fn empty_head(&mut self)
-        ensures left { store_in self.new ≡ emptied (store_in self.old) }
-        ensures same { SameSlices self.old self.new }
-    {
-        cells::put_row(self.head, 0, &[0u32; MARK]);
-        cells::put(self.head, MARK, 1);
-    }
+// All counts 0, and the mark set. It asks for the head alone, since the other parts may be shared meanwhile.
+pub fn empty_head(head: &mut [u32])
+    ensures { (k r n l o s : List ℕ) → store head.new k r n l o s ≡ emptied (store head.old k r n l o s) }
+{
+    cells::put_row(head, 0, &[0u32; MARK]);
+    cells::put(head, MARK, 1);
 }

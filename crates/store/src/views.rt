@@ -2,29 +2,29 @@
 ghost use Rattle.std.specs.Prelude.{◌≡◌, ◌<◌};
 ghost use Rattle.store.specs.Limits.{name_limit};
 ghost use Rattle.store.specs.Tables.{names, entries, spent, held, last_entry};
-ghost use Rattle.store.specs.Parts.{store_in};
+ghost use Rattle.store.specs.Parts.{store_seen};
 
 use crate::limits::*;
-use crate::parts::Parts;
+use crate::parts::View;
 
-impl Parts<'_> {
+impl View<'_> {
     // How many ids are named.
     pub fn names(&self) -> u32
-        ensures { result ≡ names (store_in self.now) }
+        ensures { result ≡ names (store_seen self.now) }
     {
         cells::at(self.head, NAMES)
     }
 
     // How many child entries there are.
     pub(crate) fn entries(&self) -> u32
-        ensures { result ≡ entries (store_in self.now) }
+        ensures { result ≡ entries (store_seen self.now) }
     {
         cells::at(self.head, ENTRIES)
     }
 
     // How many nullifiers there are.
     pub fn spent(&self) -> u32
-        ensures { result ≡ spent (store_in self.now) }
+        ensures { result ≡ spent (store_seen self.now) }
     {
         cells::at(self.head, SPENT)
     }
@@ -32,7 +32,7 @@ impl Parts<'_> {
     // Whether name n has a record.
     pub fn is_held(&self, n: usize) -> bool
         requires { n < name_limit }
-        ensures { result ≡ held (store_in self.now) n }
+        ensures { result ≡ held (store_seen self.now) n }
     {
         0 < cells::at(self.links, PLACES_AT + n)
     }
@@ -40,7 +40,7 @@ impl Parts<'_> {
     // The last child entry of name n, and 1 more; 0 where it has none.
     pub(crate) fn last_entry(&self, n: usize) -> u32
         requires { n < name_limit }
-        ensures { result ≡ last_entry (store_in self.now) n }
+        ensures { result ≡ last_entry (store_seen self.now) n }
     {
         cells::at(self.links, LASTS_AT + n)
     }

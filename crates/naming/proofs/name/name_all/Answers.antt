@@ -1,5 +1,7 @@
 -- Listing the new ids and clearing as many rows is naming.
+use Rattle.std.proofs.Common.{ap, ◌∙◌}
 use native.Mathlib.Omega.{arith}
+use Rattle.store.specs.Tables.{names}
 use Rattle.naming.specs.Loops.{located_count}
 use Rattle.naming.proofs.NamedParts.{located_named}
 use Rattle.naming.proofs.name.name_all.Goals as goal
@@ -11,9 +13,12 @@ list_all-requires c =
     (pre.0, (pre.1.0, omega (arith, count, pre.1.1.1)))
 
 pub clear_rows-requires : goal.clear_rows-requires
-clear_rows-requires c = omega (arith, c.names-first.ensures, c.requires.1.1.1)
+clear_rows-requires c =
+    let first = c.names-first.ensures ∙ ap names c.view.ensures in
+    omega (arith, first, c.requires.1.1.1)
 
 pub returns-clause-left : goal.returns-clause-left
 returns-clause-left c =
     let pre = c.requires in
-    located_named _ _ _ _ pre.1.1.0 _ _ _ (omega (arith, pre.0.head_long)) c.names-first.ensures c.list_all.ensures.left c.clear_rows.ensures.left
+    let first = c.names-first.ensures ∙ ap names c.view.ensures in
+    located_named _ _ _ _ pre.1.1.0 _ _ _ (omega (arith, pre.0.head_long)) first c.list_all.ensures.left c.clear_rows.ensures.left
