@@ -29,15 +29,20 @@ pub record Names (t : Store) (x : Id) (ps : List Id) (c : ℕ) (ns : List ℕ) :
 
 -- the first of the located numbers is the record's own name, and those after it are its parents' names
 module _ (t : Store) (x : Id) (ps : List Id) (at : Located) (long : length at.numbers ≡ call_limit) (short : length ps ≤ parent_limit) (l : Locates t (called x ps) (suc (length ps)) at) where
+  pub own_located : get_or at.numbers 0 0 ≡ own_name t x ps
+  own_located = l.numbers 0 (omega arith)
+
+  pub parent_located : (j : ℕ) → j < length ps → get_or at.numbers (1 + j) 0 ≡ parent_name t x ps j
+  parent_located j h = let e : 1 + j ≡ suc j = omega arith in rw e (l.numbers (suc j) (omega arith))
+
   parent_here : (j : ℕ) → j < length ps → get_or (take (length ps + 1 - 1) (drop 1 at.numbers)) j 0 ≡ parent_name t x ps j
   parent_here j h =
-      let e : 1 + j ≡ suc j = omega arith in
-      get_or-take (length ps + 1 - 1) (drop 1 at.numbers) j 0 (omega arith) ∙ get_or_after_one at.numbers j 0 ∙ rw e (l.numbers (suc j) (omega arith))
+      get_or-take (length ps + 1 - 1) (drop 1 at.numbers) j 0 (omega arith) ∙ get_or_after_one at.numbers j 0 ∙ parent_located j h
 
   pub names_located : Names t x ps (get_or at.numbers 0 0) (take (length ps + 1 - 1) (drop 1 at.numbers))
   names_located =
       record {
-        own = l.numbers 0 (omega arith);
+        own = own_located;
         count = omega (arith, length-take-le (length ps + 1 - 1) (drop 1 at.numbers) (omega (arith, length-drop 1 at.numbers)));
         parents = parent_here;
       }
@@ -93,6 +98,9 @@ module _ (t : Store) (p c : ℕ) (b : Bool) (hb : b ≡ held t p) where
 
 ------ the plain insert's parents
 
+pub entered_start : (t : Store) (c : ℕ) (ns : ℕ → ℕ) (k : ℕ) → entered t c ns 0 k ≡ entered t c ns 0 (k - 0)
+entered_start t c ns k = let e : k - 0 ≡ k = omega arith in rw e
+
 module _ (t : Store) (c : ℕ) (ns : ℕ → ℕ) (i k : ℕ) where
   pub entered_end : k ≤ i → walked (Ok tt) t ≡ entered t c ns i (k - i)
   unfolding entered
@@ -118,6 +126,14 @@ held_start t c ns = refl
 pub held_step : (t u v : Store) (c : ℕ) (ns : ℕ → ℕ) (n : ℕ) → u ≡ held_entered t c ns n → v ≡ entered_if u (ns n) c → v ≡ held_entered t c ns (n + 1)
 unfolding held_entered
 held_step t u v c ns n e q = q ∙ rw (e, add-one)
+
+pub held_end : (t u : Store) (c : ℕ) (ns : ℕ → ℕ) (n k : ℕ) → n ≤ k → k ≤ n → u ≡ held_entered t c ns n → u ≡ held_entered t c ns k
+held_end t u c ns n k a b e = let q : k ≡ n = omega arith in rw q e
+
+------ what is kept
+
+pub kept_new_lem : (t : Store) (c : ℕ) (z : Id) (ns : ℕ → ℕ) (k p : ℕ) (u v : Store) → p ≡ spent t → u ≡ with_null t z → v ≡ with_record u c p ns k → v ≡ kept_new t c z ns k
+kept_new_lem t c z ns k p u v e q h = h ∙ rw (e, q)
 
 ------ the calls
 

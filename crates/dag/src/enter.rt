@@ -32,7 +32,7 @@ pub fn enter(parts: &mut Parts, child: u16, parents: &[u16]) -> Result<(), usize
 {
     for (i, parent) in parents.iter().enumerate() {
         let name = *parent as usize;
-        if !parts.is_held(name) {
+        if !parts.view().is_held(name) {
             return Err(i);
         }
         parts.add_child(name, child);
@@ -48,7 +48,7 @@ pub fn enter_held(parts: &mut Parts, child: u16, parents: &[u16])
 {
     for parent in parents {
         let name = *parent as usize;
-        if parts.is_held(name) {
+        if parts.view().is_held(name) {
             parts.add_child(name, child);
         }
     }
@@ -60,7 +60,7 @@ pub fn keep_new(parts: &mut Parts, nullifier: &[u8; 32], child: u16, parents: &[
     ensures left { store_in parts.new ≡ kept_new (store_in parts.old) child nullifier.now (λ j. get_or parents.now j 0) (length parents.now) }
     ensures same { SameSlices parts.old parts.new }
 {
-    let place = parts.spent() as usize;
+    let place = parts.view().spent() as usize;
     parts.keep_null(nullifier);
     parts.keep_record(child as usize, place, parents);
 }

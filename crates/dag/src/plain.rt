@@ -33,6 +33,6 @@ pub fn insert(parts: &mut Parts, tx: &Transaction) -> Result<(), DagRefusal>
     ensures left { left result (store_in parts.new) ≡ insert_of (store_in parts.old) tx.now.id.now tx.now.nullifier.0 tx.now.parents.now }
     ensures same { SameSlices parts.old parts.new }
 {
-    let at = judge_insert(parts, tx)?;
+    let at = judge_insert(&parts.view(), tx)?;
     apply_insert(parts, tx, at)
 }

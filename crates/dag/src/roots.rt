@@ -25,7 +25,7 @@ fn apply_genesis(parts: &mut Parts, tx: &Transaction, at: Located)
     let child = at.numbers[0];
     let names = &at.numbers[1..=tx.parents.len()];
     enter_held(parts, child, names);
-    match place_of(parts, &tx.nullifier.0) {
+    match place_of(&parts.view(), &tx.nullifier.0) {
         Some(place) => parts.keep_record(child as usize, place, names),
         None => keep_new(parts, &tx.nullifier.0, child, names),
     }
@@ -36,7 +36,7 @@ pub fn genesis(parts: &mut Parts, tx: &Transaction) -> Result<(), DagRefusal>
     ensures left { left result (store_in parts.new) ≡ genesis_of (store_in parts.old) tx.now.id.now tx.now.nullifier.0 tx.now.parents.now }
     ensures same { SameSlices parts.old parts.new }
 {
-    let at = judge_genesis(parts, tx)?;
+    let at = judge_genesis(&parts.view(), tx)?;
     apply_genesis(parts, tx, at);
     Ok(())
 }

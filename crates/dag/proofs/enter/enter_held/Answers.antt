@@ -1,5 +1,5 @@
 use Rattle.std.proofs.Common.{◌≡◌, ◌∙◌, length, get_or, ap, arith}
-use Rattle.store.specs.Tables.{Store, entries}
+use Rattle.store.specs.Tables.{Store, entries, held}
 use Rattle.store.specs.Parts.{store_in, SameSlices, same_start, same_then}
 use Rattle.dag.specs.Rules.{entered_if}
 use Rattle.dag.proofs.Entering.{held_start, held_step, if_count, if_long, if_held, if_unheld}
@@ -13,10 +13,11 @@ pub loop-parent-preserved : goal.loop-parent-preserved
 loop-parent-preserved c =
     let t = store_in c.loop-parent.parts in
     let p = get_or c.args.parents.now c.loop-parent.parent-index 0 in
+    let seen : c.is_held.result ≡ held t p = c.is_held.ensures ∙ ap (λ (u : Store). held u p) c.view.ensures in
     let entry : store_in c.if-is_held.parts ≡ entered_if t p c.args.child =
     elim c.if-is_held.branch [
-      | then-is_held w ↦ ap store_in w.parts-is ∙ if_held t p c.args.child _ c.is_held.ensures _ w.if-is_held.true w.add_child.ensures.left
-      | else-is_held w ↦ ap store_in w.parts-is ∙ if_unheld t p c.args.child _ c.is_held.ensures w.if-is_held.false
+      | then-is_held w ↦ ap store_in w.parts-is ∙ if_held t p c.args.child _ seen _ w.if-is_held.true w.add_child.ensures.left
+      | else-is_held w ↦ ap store_in w.parts-is ∙ if_unheld t p c.args.child _ seen w.if-is_held.false
     ] in
     let same : SameSlices c.loop-parent.parts c.if-is_held.parts =
     elim c.if-is_held.branch [ then-is_held w ↦ rw w.parts-is w.add_child.ensures.same | else-is_held w ↦ rw w.parts-is (same_start _) ] in

@@ -1,29 +1,29 @@
 -- Each way out is one case of the verdict; a fine one has the call's ids as they were located.
 use Rattle.std.proofs.Common.{arith}
-use Rattle.store.specs.Parts.{store_in}
+use Rattle.store.specs.Parts.{store_seen}
 use Rattle.dag.specs.Judging.{judges_refused, judges_fine, room_names, room_children, room_nulls, room_fine}
 use Rattle.dag.specs.Begun.{name_parts}
 use Rattle.dag.proofs.judge.judge_room.Goals as goal
 
 pub locate-at-requires : goal.locate-at-requires
-locate-at-requires c = rw c.ids.ensures (name_parts (store_in c.args.parts.now) c.requires.0, omega (arith, c.requires.1))
+locate-at-requires c = rw c.ids.ensures (name_parts (store_seen c.args.view.now) c.requires.0, omega (arith, c.requires.1))
 
 pub returns-then-used-at : goal.returns-then-used-at
 returns-then-used-at c =
     let l = rw c.ids.ensures at c.locate-at.ensures in
-    judges_refused _ _ _ _ _ (room_names (store_in c.args.parts.now) _ _ _ _ c.counts-used.ensures _ l.fresh c.if-used-at.true)
+    judges_refused _ _ _ _ _ (room_names (store_seen c.args.view.now) _ _ _ _ c.counts-used.ensures _ l.fresh c.if-used-at.true)
 
 pub returns-then-used-tx : goal.returns-then-used-tx
 returns-then-used-tx c =
     let l = rw c.ids.ensures at c.locate-at.ensures in
-    judges_refused _ _ _ _ _ (room_children (store_in c.args.parts.now) _ _ _ _ c.counts-used.ensures _ l.fresh c.if-used-at.false c.if-used-tx.true)
+    judges_refused _ _ _ _ _ (room_children (store_seen c.args.view.now) _ _ _ _ c.counts-used.ensures _ l.fresh c.if-used-at.false c.if-used-tx.true)
 
 pub returns-then-used-places : goal.returns-then-used-places
 returns-then-used-places c =
     let l = rw c.ids.ensures at c.locate-at.ensures in
-    judges_refused _ _ _ _ _ (room_nulls (store_in c.args.parts.now) _ _ _ _ c.counts-used.ensures _ l.fresh c.if-used-at.false c.if-used-tx.false c.if-used-places.true)
+    judges_refused _ _ _ _ _ (room_nulls (store_seen c.args.view.now) _ _ _ _ c.counts-used.ensures _ l.fresh c.if-used-at.false c.if-used-tx.false c.if-used-places.true)
 
 pub returns : goal.returns
 returns c =
     let l = rw c.ids.ensures at c.locate-at.ensures in
-    judges_fine _ _ _ _ _ (room_fine (store_in c.args.parts.now) _ _ _ _ c.counts-used.ensures _ l.fresh c.if-used-at.false c.if-used-tx.false c.if-used-places.false) l
+    judges_fine _ _ _ _ _ (room_fine (store_seen c.args.view.now) _ _ _ _ c.counts-used.ensures _ l.fresh c.if-used-at.false c.if-used-tx.false c.if-used-places.false) l
