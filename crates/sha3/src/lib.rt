@@ -27,7 +27,8 @@ impl Hasher {
         }
     }
 
-    // Bytes that go no further than the block's end; a full block is permuted.
+    // Bytes that go no further than the block's end. A full block is permuted, by the one call of the permutation, so that it is
+    // compiled into the loop of `update`.
     fn fill(self, part: &[u8]) -> Hasher
         requires { self.at + length part.now ≤ 136 }
         ensures { result ≡ holding (plus_bytes self.lanes self.at part.now) (self.at + length part.now) }
@@ -43,7 +44,7 @@ impl Hasher {
         Hasher { lanes, at }
     }
 
-    // The one call of the permutation is here, so that it is compiled into the loop; `finish` comes here too.
+    // `finish` comes here too.
     pub fn update(self, part: &[u8]) -> Hasher
         ensures value { result ≡ taken self part.now }
         ensures of_message { (m : List ℕ) → self ≡ after m → result ≡ after (m ++ part.now) }

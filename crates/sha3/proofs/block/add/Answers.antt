@@ -5,7 +5,7 @@ use native.Mathlib.Omega.{arith}
 use Rattle.sha3.specs.Hash.{plus_bytes}
 use Rattle.sha3.proofs.block.add.Goals as goal
 
-pub returns-then-part-eq136 : goal.returns-then-part-eq136
-returns-then-part-eq136 c =
-    let start : 0 ≡ c.args.p = omega arith in
-    c.add_lanes.ensures ∙ ap (λ (p : ℕ). plus_bytes c.args.s p c.args.part.now) start
+pub returns-then-part-eq-RATE : goal.returns-then-part-eq-RATE
+returns-then-part-eq-RATE c =
+    let start : 0 ≡ c.args.at = omega arith in
+    c.add_lanes.ensures ∙ ap (λ (p : ℕ). plus_bytes c.args.lanes p c.args.part.now) start

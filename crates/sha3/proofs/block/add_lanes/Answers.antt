@@ -30,4 +30,4 @@ loop-i-preserved c =
     one_more _ _ part c.as_chunks.result.0.now _ i _ (length part / 8) (c.requires.aligned (omega arith)) (omega arith) (omega arith) (λ k. (c.type_inv.part k).fits) c.as_chunks.ensures.front c.from_le_bytes.ensures c.loop-i.invariant
 
 pub returns : goal.returns
-returns c = c.loop-i.invariant ∙ ap (plus_bytes c.args.s c.args.p) (take_all (8 * c.loop-i.i) c.args.part.now (omega arith))
+returns c = c.loop-i.invariant ∙ ap (plus_bytes c.args.lanes c.args.at) (take_all (8 * c.loop-i.i) c.args.part.now (omega arith))

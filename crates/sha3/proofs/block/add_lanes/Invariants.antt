@@ -6,4 +6,4 @@ use Rattle.sha3.specs.Hash.{plus_bytes}
 use Rattle.sha3.proofs.block.add_lanes.Given as goal
 
 abbrev pub invariant-loop-i : goal.invariant-loop-i
-invariant-loop-i l = l.lanes ≡ plus_bytes l.initial.lanes l.p (take (8 * l.i) l.part)
+invariant-loop-i l = l.lanes ≡ plus_bytes l.initial.lanes l.at (take (8 * l.i) l.part)

@@ -22,4 +22,4 @@ returns c =
     let head = c.split_at.ensures in
     let whole = c.split_at-2.ensures in
     let parts = head.by_index.0 ∙ ap (λ (m : List ℕ). c.split_at.result.0.now ++ m) whole.by_index.0 in
-    three _ c.args.part.now _ _ _ _ _ _ _ _ _ parts refl refl c.add_bytes-a.ensures c.add_lanes-b.ensures c.add_bytes.ensures
+    three _ c.args.part.now _ _ _ _ _ _ _ _ _ parts refl refl c.add_bytes-lanes.ensures c.add_lanes-lanes.ensures c.add_bytes.ensures

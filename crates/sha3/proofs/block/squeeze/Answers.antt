@@ -63,6 +63,6 @@ pub returns : goal.returns
 unfolding output
 returns c =
     let i = c.loop-i.i in
-    let four : length (take 4 c.args.s) ≡ 4 = length-take-le 4 c.args.s (omega arith) in
+    let four : length (take 4 c.args.lanes) ≡ 4 = length-take-le 4 c.args.lanes (omega arith) in
     let end : 8 * i ≡ 32 = omega arith in
-    sym (take_all (8 * i) c.loop-i.bytes (omega (arith, c.loop-i.invariant.0))) ∙ c.loop-i.invariant.1 ∙ ap (λ (n : ℕ). listed n 0 (byte_of c.args.s)) end
+    sym (take_all (8 * i) c.loop-i.bytes (omega (arith, c.loop-i.invariant.0))) ∙ c.loop-i.invariant.1 ∙ ap (λ (n : ℕ). listed n 0 (byte_of c.args.lanes)) end
