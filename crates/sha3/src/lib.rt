@@ -18,6 +18,7 @@ pub struct Hasher {
 }
 
 impl Hasher {
+    #[tactic(auto, unfolding(crate::specs::Hash::after, crate::specs::Hash::take_bytes))]
     pub fn new() -> Hasher
         ensures { result ≡ after [] }
     {
@@ -29,6 +30,7 @@ impl Hasher {
 
     // Bytes that go no further than the block's end. A full block is permuted, by the one call of the permutation, so that it is
     // compiled into the loop of `update`.
+    #[tactic(auto, using(crate::specs::Sponge::holding_full, crate::specs::Sponge::holding_part))]
     fn fill(self, part: &[u8]) -> Hasher
         requires { self.at + length part.now ≤ 136 }
         ensures { result ≡ holding (plus_bytes self.lanes self.at part.now) (self.at + length part.now) }

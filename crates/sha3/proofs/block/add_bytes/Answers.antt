@@ -1,4 +1,4 @@
-use mathlib.Core.Path.{◌≡◌, refl, sym, ap, ap₂, ◌∙◌}
+use mathlib.Core.Path.{◌≡◌, sym, ap, ap₂, ◌∙◌}
 use mathlib.Core.List.{List}
 use Prim.Native.Nat.{ℕ, ◌+◌, ◌*◌, ◌/◌, ◌%◌, ◌^◌, ◌<◌}
 use native.Mathlib.Nat.{mod-eq_of_lt}
@@ -20,10 +20,6 @@ one_more s l part p i b h f eb e =
     ap₂ (λ (x : List ℕ) (v : ℕ). set x ((p + i) / 8) (bit_xor (get_or x ((p + i) / 8) 0) v)) e (in_place b ((p + i) % 8) f (omega arith))
     ∙ ap (plus_byte (plus_bytes s p (take i part)) (p + i)) eb
     ∙ sym (plus_bytes_one s part p i h)
-
-pub loop-i-init : goal.loop-i-init
-unfolding plus_bytes
-loop-i-init c = refl
 
 pub loop-i-preserved : goal.loop-i-preserved
 loop-i-preserved c =

@@ -1,4 +1,4 @@
-use mathlib.Core.Path.{◌≡◌, refl, sym, ap, ◌∙◌}
+use mathlib.Core.Path.{◌≡◌, sym, ap, ◌∙◌}
 use mathlib.Core.List.{List, []}
 use Prim.Native.Nat.{ℕ, ◌+◌, ◌*◌, ◌/◌, ◌%◌, ◌^◌, ◌<◌, ◌≤◌}
 use native.Mathlib.Omega.{arith}
@@ -18,10 +18,6 @@ unfolding plus_lane
 one_more s l m ws p i v n a h hm b ew ev e =
     let r = ev ∙ ap (λ (x : List (List ℕ)). from_le_bytes w64 (get_or x i [])) ew ∙ word_le n i m h hm b in
     (λ j. set (e j) (p / 8 + i) (bit_xor (get_or (e j) (p / 8 + i) 0) (r j))) ∙ sym (plus_bytes_word s m p i a (omega arith))
-
-pub loop-i-init : goal.loop-i-init
-unfolding plus_bytes
-loop-i-init c = refl
 
 pub loop-i-preserved : goal.loop-i-preserved
 loop-i-preserved c =
