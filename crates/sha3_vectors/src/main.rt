@@ -2,7 +2,7 @@
 // around each multiple of the rate, and messages in parts, split at every place.
 #![tactic(auto)]
 
-ghost use Rattle.std.specs.Prelude.{◌≡◌, ◌≤◌, length};
+ghost use Rattle.std.specs.Prelude.{◌≤◌};
 
 use sha3::Hasher;
 use std::io::{self, Write};
@@ -20,16 +20,12 @@ fn example<W: Write>(out: &mut W, name: &str, message: &[u8]) -> io::Result<()> 
 }
 
 // The message of n bytes: x is n mod 251, each byte is x, and after byte i x becomes (29 x + i + 7) mod 251. (The array goes on past n.)
-fn message(n: usize) -> [u8; 2048]
-    ensures { 2048 ≡ length result }
-{
+fn message(n: usize) -> [u8; 2048] {
     let mut bytes = [0u8; 2048];
     let mut x = n % 251;
-    let mut i = 0;
-    while i < 2048 {
-        bytes[i] = x as u8;
+    for (i, byte) in bytes.iter_mut().enumerate() {
+        *byte = x as u8;
         x = (29 * x + i + 7) % 251;
-        i += 1;
     }
     bytes
 }
@@ -55,10 +51,8 @@ fn in_parts<W: Write>(out: &mut W, n: usize, cut: usize) -> io::Result<()>
 fn split_everywhere<W: Write>(out: &mut W, n: usize) -> io::Result<()>
     requires { n ≤ 2048 }
 {
-    let mut cut = 0;
-    while cut <= n {
+    for cut in 0..=n {
         in_parts(out, n, cut)?;
-        cut += 1;
     }
     Ok(())
 }
@@ -67,32 +61,25 @@ fn split_everywhere<W: Write>(out: &mut W, n: usize) -> io::Result<()>
 fn million<W: Write>(out: &mut W) -> io::Result<()> {
     let part = [b'a'; 625];
     let mut hasher = Hasher::new();
-    let mut i: usize = 0;
-    while i < 1600 {
-        let next = hasher.update(&part);
-        hasher = next;
-        i += 1;
+    for _ in 0..1600 {
+        hasher = hasher.update(&part);
     }
     write!(out, "million ")?;
     show(out, hasher.finish())
 }
 
 fn lengths<W: Write>(out: &mut W, first: usize, last: usize) -> io::Result<()>
-    requires { (first ≤ last) × (last ≤ 2048) }
+    requires { last ≤ 2048 }
 {
-    let mut n = first;
-    while n <= last {
+    for n in first..=last {
         whole(out, n)?;
-        n += 1;
     }
     Ok(())
 }
 
 fn around_blocks<W: Write>(out: &mut W) -> io::Result<()> {
-    let mut blocks = 3;
-    while blocks <= 15 {
+    for blocks in 3..=15 {
         lengths(out, 136 * blocks - 2, 136 * blocks + 2)?;
-        blocks += 1;
     }
     Ok(())
 }
