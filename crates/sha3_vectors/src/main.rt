@@ -2,10 +2,12 @@
 // around each multiple of the rate, and messages in parts, split at every place.
 #![tactic(auto)]
 
-ghost use Rattle.std.specs.Prelude.{◌≤◌};
+ghost use Rattle.std.specs.Prelude.{◌≤◌, length};
 
 use sha3::Hasher;
 use std::io::{self, Write};
+
+const LONGEST: usize = 2048;
 
 fn show<W: Write>(out: &mut W, hash: [u8; 32]) -> io::Result<()> {
     for byte in hash {
@@ -19,37 +21,42 @@ fn example<W: Write>(out: &mut W, name: &str, message: &[u8]) -> io::Result<()> 
     show(out, sha3::sha3_256(message))
 }
 
-// The message of n bytes: x is n mod 251, each byte is x, and after byte i x becomes (29 x + i + 7) mod 251. (The array goes on past n.)
-fn message(n: usize) -> [u8; 2048] {
-    let mut bytes = [0u8; 2048];
-    let mut x = n % 251;
-    for (i, byte) in bytes.iter_mut().enumerate() {
+// Fills a message: x is its length mod 251, each byte is x, and after byte i x becomes (29 x + i + 7) mod 251.
+fn fill(message: &mut [u8])
+    requires { length message.old ≤ LONGEST }
+{
+    let mut x = message.len() % 251;
+    for (i, byte) in message.iter_mut().enumerate() {
         *byte = x as u8;
         x = (29 * x + i + 7) % 251;
     }
-    bytes
 }
 
 fn whole<W: Write>(out: &mut W, n: usize) -> io::Result<()>
-    requires { n ≤ 2048 }
+    requires { n ≤ LONGEST }
 {
     write!(out, "length {n} ")?;
-    let bytes = message(n);
-    show(out, sha3::sha3_256(&bytes[0..n]))
+    let mut buffer = [0u8; LONGEST];
+    let message = &mut buffer[..n];
+    fill(message);
+    show(out, sha3::sha3_256(message))
 }
 
 // The first `cut` bytes, nothing, and the others.
 fn in_parts<W: Write>(out: &mut W, n: usize, cut: usize) -> io::Result<()>
-    requires { (cut ≤ n) × (n ≤ 2048) }
+    requires { (cut ≤ n) × (n ≤ LONGEST) }
 {
     write!(out, "split {n} {cut} ")?;
-    let bytes = message(n);
-    let first = Hasher::new().update(&bytes[0..cut]).update(b"");
-    show(out, first.update(&bytes[cut..n]).finish())
+    let mut buffer = [0u8; LONGEST];
+    let message = &mut buffer[..n];
+    fill(message);
+    let (first, others) = message.split_at(cut);
+    let hasher = Hasher::new().update(first).update(b"").update(others);
+    show(out, hasher.finish())
 }
 
 fn split_everywhere<W: Write>(out: &mut W, n: usize) -> io::Result<()>
-    requires { n ≤ 2048 }
+    requires { n ≤ LONGEST }
 {
     for cut in 0..=n {
         in_parts(out, n, cut)?;
@@ -69,7 +76,7 @@ fn million<W: Write>(out: &mut W) -> io::Result<()> {
 }
 
 fn lengths<W: Write>(out: &mut W, first: usize, last: usize) -> io::Result<()>
-    requires { last ≤ 2048 }
+    requires { last ≤ LONGEST }
 {
     for n in first..=last {
         whole(out, n)?;
