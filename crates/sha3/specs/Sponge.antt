@@ -1,6 +1,6 @@
 -- Laws of the byte-wise sponge: parts one after the other, blocks, and lanes.
 use Rattle.std.specs.Prelude.{◌≡◌, refl, Bool, cond, List, [], ◌∷◌, ◌++◌, ℕ, zero, suc, ◌+◌, ◌*◌, ◌/◌, ◌%◌, ◌^◌, ◌≤◌, ◌<◌, length, get_or, set, take, drop, replicate}
-use Rattle.std.proofs.Common.{sym, ap, ap₂, subst, ◌∙◌, ⊎_elim, mod-eq_of_lt, mod-lt, eq-or-lt_of_le, add-zero, zero-mul, mul_assoc, add-mul, add-one, arith, eq-eqb, ne_eqb, pow_pos, pow-add, shl_lt, lit<, length-append, length-drop, take-suc, take-add, drop-drop, set-set, get_or-set_same, length-take-le, get_or-take, get_or-drop, drop-cons, drop_of_length-le}
+use Rattle.std.proofs.Common.{sym, ap, ap₂, subst, ◌∙◌, ⊎_elim, mod-eq_of_lt, mod-lt, eq-or-lt_of_le, add-zero, zero-mul, mul_assoc, add-mul, add-one, arith, eq-eqb, ne_eqb, pow_pos, pow-add, shl_lt, lit<, length-drop, take-suc, take-add, drop-drop, set-set, get_or-set_same, length-take-le, get_or-take, get_or-drop, drop-cons, drop_of_length-le}
 use Rattle.std.specs.Int.{from_le_bytes, w64}
 use Rattle.std.specs.Int.Bits.{bit_xor, xor_shifted, xor_zero_r}
 use Rattle.std.specs.Simd.{first_chunks}
@@ -15,10 +15,6 @@ use Rattle.sha3.specs.Hash.{plus_lane, plus_byte, plus_bytes, holding, take_byte
 -- a hasher of these lanes, at this place
 abbrev pub of : List ℕ → ℕ → Hasher
 of s p = record { lanes = s; at = p }
-
--- a hasher with bytes added that go no further than its block's end
-abbrev pub added : Hasher → List ℕ → Hasher
-added h m = of (plus_bytes h.lanes h.at m) (h.at + length m)
 
 -- a block is full or not
 pub holding_full : (s : List ℕ) (p : ℕ) → p ≡ 136 → holding s p ≡ of (permuted s) 0
@@ -82,11 +78,6 @@ plus_bytes_append [] b s p = ap (λ (q : ℕ). plus_bytes s q b) (sym (add-zero 
 plus_bytes_append (x ∷ a) b s p =
     let e : suc p + length a ≡ p + suc (length a) = omega arith in
     plus_bytes_append a b (plus_byte s p x) (suc p) ∙ ap (λ (q : ℕ). plus_bytes (plus_bytes (plus_byte s p x) (suc p) a) q b) e
-
-pub added_append : (h : Hasher) (a b : List ℕ) → added h (a ++ b) ≡ added (added h a) b
-added_append h a b =
-    let e : h.at + length (a ++ b) ≡ h.at + length a + length b = omega (arith, length-append a b) in
-    λ i. of (plus_bytes_append a b h.lanes h.at i) (e i)
 
 -- a bytes of a part, and then b more
 pub plus_bytes_then : (s m : List ℕ) (p from a b : ℕ) → from + a ≤ length m

@@ -18,6 +18,7 @@ pub struct Hasher {
 }
 
 impl Hasher {
+    #[tactic(auto, unfolding(crate::specs::Hash::after, crate::specs::Hash::take_bytes))]
     pub fn new() -> Hasher
         ensures { result ≡ after [] }
     {
@@ -27,22 +28,25 @@ impl Hasher {
         }
     }
 
-    // Bytes that go no further than the block's end; a full block is permuted.
+    // Bytes that go no further than the block's end. A full block is permuted, by the one call of the permutation, so that it is
+    // compiled into the loop of `update`.
+    #[tactic(auto, using(crate::specs::Sponge::holding_full, crate::specs::Sponge::holding_part))]
     fn fill(self, part: &[u8]) -> Hasher
         requires { self.at + length part.now ≤ 136 }
         ensures { result ≡ holding (plus_bytes self.lanes self.at part.now) (self.at + length part.now) }
     {
-        let added = self.add(part);
-        if added.at < RATE {
-            return added;
+        let lanes = block::add(self.lanes, self.at, part);
+        let at = self.at + part.len();
+        if at == RATE {
+            return Hasher {
+                lanes: keccak::permute(lanes),
+                at: 0,
+            };
         }
-        Hasher {
-            lanes: keccak::permute(added.lanes),
-            at: 0,
-        }
+        Hasher { lanes, at }
     }
 
-    // The one call of the permutation is here, so that it is compiled into the loop; `finish` comes here too.
+    // `finish` comes here too.
     pub fn update(self, part: &[u8]) -> Hasher
         ensures value { result ≡ taken self part.now }
         ensures of_message { (m : List ℕ) → self ≡ after m → result ≡ after (m ++ part.now) }
@@ -68,7 +72,7 @@ impl Hasher {
         let mut padding = [0u8; RATE];
         padding[at] = 0x06;
         padding[RATE - 1] |= 0x80;
-        self.update(&padding[at..]).squeeze()
+        block::squeeze(self.update(&padding[at..]).lanes)
     }
 }
 

@@ -2,10 +2,12 @@
 // around each multiple of the rate, and messages in parts, split at every place.
 #![tactic(auto)]
 
-ghost use Rattle.std.specs.Prelude.{◌≡◌, ◌≤◌, length};
+ghost use Rattle.std.specs.Prelude.{◌≤◌, length};
 
 use sha3::Hasher;
 use std::io::{self, Write};
+
+const LONGEST: usize = 2048;
 
 fn show<W: Write>(out: &mut W, hash: [u8; 32]) -> io::Result<()> {
     for byte in hash {
@@ -19,46 +21,45 @@ fn example<W: Write>(out: &mut W, name: &str, message: &[u8]) -> io::Result<()> 
     show(out, sha3::sha3_256(message))
 }
 
-// The message of n bytes: x is n mod 251, each byte is x, and after byte i x becomes (29 x + i + 7) mod 251. (The array goes on past n.)
-fn message(n: usize) -> [u8; 2048]
-    ensures { 2048 ≡ length result }
+// Fills a message: x is its length mod 251, each byte is x, and after byte i x becomes (29 x + i + 7) mod 251.
+fn fill(message: &mut [u8])
+    requires { length message.old ≤ LONGEST }
 {
-    let mut bytes = [0u8; 2048];
-    let mut x = n % 251;
-    let mut i = 0;
-    while i < 2048 {
-        bytes[i] = x as u8;
+    let mut x = message.len() % 251;
+    for (i, byte) in message.iter_mut().enumerate() {
+        *byte = x as u8;
         x = (29 * x + i + 7) % 251;
-        i += 1;
     }
-    bytes
 }
 
 fn whole<W: Write>(out: &mut W, n: usize) -> io::Result<()>
-    requires { n ≤ 2048 }
+    requires { n ≤ LONGEST }
 {
     write!(out, "length {n} ")?;
-    let bytes = message(n);
-    show(out, sha3::sha3_256(&bytes[0..n]))
+    let mut buffer = [0u8; LONGEST];
+    let message = &mut buffer[..n];
+    fill(message);
+    show(out, sha3::sha3_256(message))
 }
 
 // The first `cut` bytes, nothing, and the others.
 fn in_parts<W: Write>(out: &mut W, n: usize, cut: usize) -> io::Result<()>
-    requires { (cut ≤ n) × (n ≤ 2048) }
+    requires { (cut ≤ n) × (n ≤ LONGEST) }
 {
     write!(out, "split {n} {cut} ")?;
-    let bytes = message(n);
-    let first = Hasher::new().update(&bytes[0..cut]).update(b"");
-    show(out, first.update(&bytes[cut..n]).finish())
+    let mut buffer = [0u8; LONGEST];
+    let message = &mut buffer[..n];
+    fill(message);
+    let (first, others) = message.split_at(cut);
+    let hasher = Hasher::new().update(first).update(b"").update(others);
+    show(out, hasher.finish())
 }
 
 fn split_everywhere<W: Write>(out: &mut W, n: usize) -> io::Result<()>
-    requires { n ≤ 2048 }
+    requires { n ≤ LONGEST }
 {
-    let mut cut = 0;
-    while cut <= n {
+    for cut in 0..=n {
         in_parts(out, n, cut)?;
-        cut += 1;
     }
     Ok(())
 }
@@ -67,32 +68,25 @@ fn split_everywhere<W: Write>(out: &mut W, n: usize) -> io::Result<()>
 fn million<W: Write>(out: &mut W) -> io::Result<()> {
     let part = [b'a'; 625];
     let mut hasher = Hasher::new();
-    let mut i: usize = 0;
-    while i < 1600 {
-        let next = hasher.update(&part);
-        hasher = next;
-        i += 1;
+    for _ in 0..1600 {
+        hasher = hasher.update(&part);
     }
     write!(out, "million ")?;
     show(out, hasher.finish())
 }
 
 fn lengths<W: Write>(out: &mut W, first: usize, last: usize) -> io::Result<()>
-    requires { (first ≤ last) × (last ≤ 2048) }
+    requires { last ≤ LONGEST }
 {
-    let mut n = first;
-    while n <= last {
+    for n in first..=last {
         whole(out, n)?;
-        n += 1;
     }
     Ok(())
 }
 
 fn around_blocks<W: Write>(out: &mut W) -> io::Result<()> {
-    let mut blocks = 3;
-    while blocks <= 15 {
+    for blocks in 3..=15 {
         lengths(out, 136 * blocks - 2, 136 * blocks + 2)?;
-        blocks += 1;
     }
     Ok(())
 }

@@ -4,7 +4,7 @@ use Prim.Native.Nat.{◌*◌}
 use lib.ListN.{length, take}
 use Rattle.keccak.specs.Fips202.{listed}
 use Rattle.sha3.specs.Hash.{byte_of}
-use Rattle.sha3.proofs.Hasher.squeeze.Given as goal
+use Rattle.sha3.proofs.block.squeeze.Given as goal
 
 abbrev pub invariant-loop-i : goal.invariant-loop-i
-invariant-loop-i l = (length l.bytes ≡ 32) × (take (8 * l.i) l.bytes ≡ listed (8 * l.i) 0 (byte_of l.fn.self.lanes))
+invariant-loop-i l = (length l.bytes ≡ 32) × (take (8 * l.i) l.bytes ≡ listed (8 * l.i) 0 (byte_of l.fn.lanes))

@@ -1,4 +1,4 @@
-use mathlib.Core.Path.{◌≡◌, refl, sym, ap, ◌∙◌}
+use mathlib.Core.Path.{◌≡◌, sym, ap, ◌∙◌}
 use mathlib.Core.List.{List, []}
 use Prim.Native.Nat.{ℕ, ◌+◌, ◌*◌, ◌/◌, ◌%◌, ◌^◌, ◌<◌, ◌≤◌}
 use native.Mathlib.Omega.{arith}
@@ -8,8 +8,8 @@ use lib.Seq.{take_all}
 use Rattle.std.specs.Int.{from_le_bytes, w64}
 use Rattle.std.specs.Simd.{first_chunks}
 use Rattle.sha3.specs.Hash.{plus_lane, plus_bytes}
-use Rattle.sha3.specs.Sponge.{of, word_le, plus_bytes_word}
-use Rattle.sha3.proofs.Hasher.add_lanes.Goals as goal
+use Rattle.sha3.specs.Sponge.{word_le, plus_bytes_word}
+use Rattle.sha3.proofs.block.add_lanes.Goals as goal
 
 one_more : (s l m : List ℕ) (ws : List (List ℕ)) (p i v n : ℕ) → p % 8 ≡ 0 → i < n → 8 * n ≤ length m → ((k : ℕ) → get_or m k 0 < 2 ^ 8)
     → ws ≡ first_chunks 8 n m → v ≡ from_le_bytes w64 (get_or ws i []) → l ≡ plus_bytes s p (take (8 * i) m)
@@ -19,10 +19,6 @@ one_more s l m ws p i v n a h hm b ew ev e =
     let r = ev ∙ ap (λ (x : List (List ℕ)). from_le_bytes w64 (get_or x i [])) ew ∙ word_le n i m h hm b in
     (λ j. set (e j) (p / 8 + i) (bit_xor (get_or (e j) (p / 8 + i) 0) (r j))) ∙ sym (plus_bytes_word s m p i a (omega arith))
 
-pub loop-i-init : goal.loop-i-init
-unfolding plus_bytes
-loop-i-init c = refl
-
 pub loop-i-preserved : goal.loop-i-preserved
 loop-i-preserved c =
     let part = c.args.part.now in
@@ -30,7 +26,4 @@ loop-i-preserved c =
     one_more _ _ part c.as_chunks.result.0.now _ i _ (length part / 8) (c.requires.aligned (omega arith)) (omega arith) (omega arith) (λ k. (c.type_inv.part k).fits) c.as_chunks.ensures.front c.from_le_bytes.ensures c.loop-i.invariant
 
 pub returns : goal.returns
-returns c =
-    let h = c.args.self in
-    let all = take_all (8 * c.loop-i.i) c.args.part.now (omega arith) in
-    ap (λ (x : List ℕ). of x (h.at + length c.args.part.now)) (c.loop-i.invariant ∙ ap (plus_bytes h.lanes h.at) all)
+returns c = c.loop-i.invariant ∙ ap (plus_bytes c.args.lanes c.args.at) (take_all (8 * c.loop-i.i) c.args.part.now (omega arith))

@@ -12,7 +12,7 @@ use Rattle.std.proofs.lemmas.Slice.{take-put_mid}
 use Rattle.keccak.specs.Fips202.{listed}
 use Rattle.keccak.specs.Lanes.{lane}
 use Rattle.sha3.specs.Hash.{byte_of, output}
-use Rattle.sha3.proofs.Hasher.squeeze.Goals as goal
+use Rattle.sha3.proofs.block.squeeze.Goals as goal
 
 listed_append : (a b p : ℕ) (f : ℕ → ℕ) → listed (a + b) p f ≡ listed a p f ++ listed b (p + a) f
 listed_append zero b p f = λ i. listed (zero-add b i) (sym (add-zero p) i) f
@@ -63,6 +63,6 @@ pub returns : goal.returns
 unfolding output
 returns c =
     let i = c.loop-i.i in
-    let four : length (take 4 c.args.self.lanes) ≡ 4 = length-take-le 4 c.args.self.lanes (omega arith) in
+    let four : length (take 4 c.args.lanes) ≡ 4 = length-take-le 4 c.args.lanes (omega arith) in
     let end : 8 * i ≡ 32 = omega arith in
-    sym (take_all (8 * i) c.loop-i.bytes (omega (arith, c.loop-i.invariant.0))) ∙ c.loop-i.invariant.1 ∙ ap (λ (n : ℕ). listed n 0 (byte_of c.args.self.lanes)) end
+    sym (take_all (8 * i) c.loop-i.bytes (omega (arith, c.loop-i.invariant.0))) ∙ c.loop-i.invariant.1 ∙ ap (λ (n : ℕ). listed n 0 (byte_of c.args.lanes)) end

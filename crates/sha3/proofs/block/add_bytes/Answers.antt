@@ -1,4 +1,4 @@
-use mathlib.Core.Path.{◌≡◌, refl, sym, ap, ap₂, ◌∙◌}
+use mathlib.Core.Path.{◌≡◌, sym, ap, ap₂, ◌∙◌}
 use mathlib.Core.List.{List}
 use Prim.Native.Nat.{ℕ, ◌+◌, ◌*◌, ◌/◌, ◌%◌, ◌^◌, ◌<◌}
 use native.Mathlib.Nat.{mod-eq_of_lt}
@@ -8,7 +8,7 @@ use lib.ListN.{length, get_or, set, take}
 use lib.Pow.{shl_exact}
 use Rattle.sha3.specs.Hash.{plus_lane, plus_byte, plus_bytes}
 use Rattle.sha3.specs.Sponge.{plus_bytes_one}
-use Rattle.sha3.proofs.Hasher.add_bytes.Goals as goal
+use Rattle.sha3.proofs.block.add_bytes.Goals as goal
 
 in_place : (b k : ℕ) → b < 2 ^ 8 → k < 8 → b * 2 ^ (8 * k) % 2 ^ 64 ≡ b % 2 ^ 8 * 2 ^ (8 * k)
 in_place b k h l = shl_exact 8 (8 * k) 64 h (omega arith) ∙ ap (λ (v : ℕ). v * 2 ^ (8 * k)) (sym (mod-eq_of_lt h))
@@ -20,10 +20,6 @@ one_more s l part p i b h f eb e =
     ap₂ (λ (x : List ℕ) (v : ℕ). set x ((p + i) / 8) (bit_xor (get_or x ((p + i) / 8) 0) v)) e (in_place b ((p + i) % 8) f (omega arith))
     ∙ ap (plus_byte (plus_bytes s p (take i part)) (p + i)) eb
     ∙ sym (plus_bytes_one s part p i h)
-
-pub loop-i-init : goal.loop-i-init
-unfolding plus_bytes
-loop-i-init c = refl
 
 pub loop-i-preserved : goal.loop-i-preserved
 loop-i-preserved c =

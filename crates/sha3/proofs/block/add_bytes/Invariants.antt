@@ -2,7 +2,7 @@
 use mathlib.Core.Path.{◌≡◌}
 use lib.ListN.{take}
 use Rattle.sha3.specs.Hash.{plus_bytes}
-use Rattle.sha3.proofs.Hasher.add_bytes.Given as goal
+use Rattle.sha3.proofs.block.add_bytes.Given as goal
 
 abbrev pub invariant-loop-i : goal.invariant-loop-i
-invariant-loop-i l = l.lanes ≡ plus_bytes l.initial.lanes l.self.at (take l.i l.part)
+invariant-loop-i l = l.lanes ≡ plus_bytes l.initial.lanes l.at (take l.i l.part)
