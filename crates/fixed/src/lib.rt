@@ -118,7 +118,7 @@ fn quotient(a: i32, b: i32, d: i32) -> i32
     low_bits(a as i64 * b as i64 / d as i64)
 }
 
-// The low 32 bits of z as two's complement.
+// The low 32 bits of z as two's complement. `as` must lose nothing, so the bits above them are cut off first.
 #[tactic(auto, unfolding(crate::specs::Rules::kept, crate::specs::Rules::low_bits))]
 fn low_bits(z: i64) -> i32
     ensures { result ≡ kept z }

@@ -12,4 +12,4 @@ mod put;
 
 pub use number::read_number;
 pub use place::{keep, place_of};
-pub use put::{put_byte, put_bytes, put_decimal, put_signed};
+pub use put::Page;

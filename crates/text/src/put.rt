@@ -1,57 +1,74 @@
 // Texts put into a lent buffer, one after the other.
-//
-// Each function puts a text at a place and gives the place after it. Where the whole text does not fit,
-// nothing is put, and the place given is the one that came in.
 ghost use Rattle.std.specs.Prelude.{◌≡◌, ◌∷◌, []};
-ghost use Rattle.text.specs.Put.{page, put_at};
+ghost use Rattle.text.specs.Put.{IsPut};
 ghost use Rattle.text.specs.Decimal.{decimal_of, minus, signed_of};
 
-pub fn put_byte(out: &mut [u8], at: usize, b: u8) -> usize
-    ensures { page out.new result ≡ put_at out.old at (b ∷ []) }
-{
-    put_bytes(out, at, &[b])
+// A lent buffer, and the next free place in it. Where the whole of a text does not fit from there on, nothing is put.
+//
+// Each method keeps the reference (`same_buffer`): so whoever lent the buffer knows what it ends as.
+#[derive(Drop)]
+pub struct Page<'a> {
+    pub bytes: &'a mut [u8],
+    pub next: usize,
 }
 
-pub fn put_bytes(out: &mut [u8], at: usize, s: &[u8]) -> usize
-    ensures { page out.new result ≡ put_at out.old at s.now }
-{
-    match at.checked_add(s.len()) {
-        Some(end) if end <= out.len() => {
-            out[at..end].copy_from_slice(s);
-            end
+impl Page<'_> {
+    pub fn put_byte(&mut self, b: u8)
+        ensures same_buffer { self.new.bytes.ghost_name ≡ self.old.bytes.ghost_name }
+        ensures put { IsPut self.old self.new (b ∷ []) }
+    {
+        if self.next < self.bytes.len() {
+            self.bytes[self.next] = b;
+            self.next += 1;
         }
-        _ => at,
     }
-}
 
-// A number in decimal, with no zero in front.
-pub fn put_decimal(out: &mut [u8], at: usize, n: u64) -> usize
-    ensures { page out.new result ≡ put_at out.old at (decimal_of n) }
-{
-    let mut digits = [0u8; 20];
-    let k = io::decimal(n, &mut digits);
-    put_bytes(out, at, &digits[..k])
-}
-
-// A signed number in decimal, with `-` in front where it is below zero.
-pub fn put_signed(out: &mut [u8], at: usize, z: i32) -> usize
-    ensures { page out.new result ≡ put_at out.old at (signed_of z) }
-{
-    let size = u64::from(z.unsigned_abs());
-    if z < 0 {
-        put_negative(out, at, size)
-    } else {
-        put_decimal(out, at, size)
+    pub fn put_bytes(&mut self, s: &[u8])
+        ensures same_buffer { self.new.bytes.ghost_name ≡ self.old.bytes.ghost_name }
+        ensures put { IsPut self.old self.new s.now }
+    {
+        let Some(end) = self.next.checked_add(s.len()) else {
+            return;
+        };
+        if end <= self.bytes.len() {
+            self.bytes[self.next..end].copy_from_slice(s);
+            self.next = end;
+        }
     }
-}
 
-// A number in decimal, with `-` in front.
-fn put_negative(out: &mut [u8], at: usize, n: u64) -> usize
-    ensures { page out.new result ≡ put_at out.old at (minus (decimal_of n)) }
-{
-    let mut digits = [0u8; 20];
-    let k = io::decimal(n, &mut digits);
-    let mut text = [b'-'; 21];
-    text[1..].copy_from_slice(&digits);
-    put_bytes(out, at, &text[..=k])
+    // A number in decimal, with no zero in front.
+    pub fn put_decimal(&mut self, n: u64)
+        ensures same_buffer { self.new.bytes.ghost_name ≡ self.old.bytes.ghost_name }
+        ensures put { IsPut self.old self.new (decimal_of n) }
+    {
+        let mut digits = [0u8; 20];
+        let k = io::decimal(n, &mut digits);
+        self.put_bytes(&digits[..k]);
+    }
+
+    // A signed number in decimal, with `-` in front where it is below zero.
+    #[inline]
+    pub fn put_signed(&mut self, z: i32)
+        ensures same_buffer { self.new.bytes.ghost_name ≡ self.old.bytes.ghost_name }
+        ensures put { IsPut self.old self.new (signed_of z) }
+    {
+        let size = u64::from(z.unsigned_abs());
+        if z < 0 {
+            self.put_negative(size);
+        } else {
+            self.put_decimal(size);
+        }
+    }
+
+    // A number in decimal, with `-` in front.
+    fn put_negative(&mut self, n: u64)
+        ensures same_buffer { self.new.bytes.ghost_name ≡ self.old.bytes.ghost_name }
+        ensures put { IsPut self.old self.new (minus (decimal_of n)) }
+    {
+        let mut digits = [0u8; 20];
+        let k = io::decimal(n, &mut digits);
+        let mut text = [b'-'; 21];
+        text[1..].copy_from_slice(&digits);
+        self.put_bytes(&text[..=k]);
+    }
 }

@@ -2,10 +2,11 @@
 //
 // specs/Output says what is written for each line, and specs/Stream which lines a step answers and what it keeps.
 ghost use Rattle.std.specs.Prelude.{◌≡◌, ◌+◌, ◌≤◌, length};
-ghost use Rattle.text.specs.Put.{page, put_at};
+ghost use Rattle.text.specs.Put.{IsPut};
 ghost use Rattle.weights_run.specs.Output.{row_of, text_of, answer_line};
 ghost use Rattle.weights_run.specs.Stream.{room_each, answered, answered_of, stepped, step_of};
 
+use text::Page;
 use weights_line::Figures;
 
 // The room in the output for each line's answer, which has at most 15 bytes.
@@ -44,45 +45,55 @@ pub(crate) fn advance(input: &mut [u8], filled: usize, out: &mut [u8]) -> Step
 fn answer_lines(part: &[u8], out: &mut [u8]) -> Answered
     ensures { answered result out.new ≡ answered_of part.now out.old }
 {
+    let most = out.len() / ROOM_EACH;
+    let mut page = Page {
+        bytes: out,
+        next: 0,
+    };
     let mut used = 0;
-    let mut written = 0;
-    for _ in 0..out.len() / ROOM_EACH {
+    for _ in 0..most {
         let rest = &part[used..];
         let size = text::place_of(rest, b'\n');
         if rest.len() <= size {
             break;
         }
-        written = answer_line(&rest[..size], out, written);
+        answer_line(&rest[..size], &mut page);
         used += size + 1;
     }
-    Answered { used, written }
-}
-
-pub(crate) fn answer_line(line: &[u8], out: &mut [u8], at: usize) -> usize
-    requires { at + room_each ≤ length out.old }
-    ensures { page out.new result ≡ put_at out.old at (answer_line line.now) }
-{
-    put_answer(out, at, weights_line::answer_to(weights_line::parse(line)))
-}
-
-fn put_answer(out: &mut [u8], at: usize, answer: Option<Figures>) -> usize
-    requires { at + length (text_of answer) ≤ length out.old }
-    ensures { page out.new result ≡ put_at out.old at (text_of answer) }
-{
-    match answer {
-        Some(figures) => put_figures(out, at, figures),
-        None => text::put_bytes(out, at, b"bad\n"),
+    Answered {
+        used,
+        written: page.next,
     }
 }
 
-fn put_figures(out: &mut [u8], at: usize, figures: Figures) -> usize
-    requires { at + length (row_of figures.curvature figures.alpha figures.weight) ≤ length out.old }
-    ensures { page out.new result ≡ put_at out.old at (row_of figures.curvature figures.alpha figures.weight) }
+pub(crate) fn answer_line(line: &[u8], out: &mut Page)
+    requires { out.old.next + room_each ≤ length out.old.bytes.now }
+    ensures same_buffer { out.new.bytes.ghost_name ≡ out.old.bytes.ghost_name }
+    ensures put { IsPut out.old out.new (answer_line line.now) }
 {
-    let after_curvature = text::put_signed(out, at, figures.curvature);
-    let space = text::put_byte(out, after_curvature, b' ');
-    let after_alpha = text::put_decimal(out, space, u64::from(figures.alpha));
-    let second_space = text::put_byte(out, after_alpha, b' ');
-    let after_weight = text::put_signed(out, second_space, figures.weight);
-    text::put_byte(out, after_weight, b'\n')
+    put_answer(out, weights_line::answer_to(weights_line::parse(line)));
+}
+
+fn put_answer(out: &mut Page, answer: Option<Figures>)
+    requires { out.old.next + length (text_of answer) ≤ length out.old.bytes.now }
+    ensures same_buffer { out.new.bytes.ghost_name ≡ out.old.bytes.ghost_name }
+    ensures put { IsPut out.old out.new (text_of answer) }
+{
+    match answer {
+        Some(figures) => put_figures(out, figures),
+        None => out.put_bytes(b"bad\n"),
+    }
+}
+
+fn put_figures(out: &mut Page, figures: Figures)
+    requires { out.old.next + length (row_of figures.curvature figures.alpha figures.weight) ≤ length out.old.bytes.now }
+    ensures same_buffer { out.new.bytes.ghost_name ≡ out.old.bytes.ghost_name }
+    ensures put { IsPut out.old out.new (row_of figures.curvature figures.alpha figures.weight) }
+{
+    out.put_signed(figures.curvature);
+    out.put_byte(b' ');
+    out.put_decimal(u64::from(figures.alpha));
+    out.put_byte(b' ');
+    out.put_signed(figures.weight);
+    out.put_byte(b'\n');
 }

@@ -1,7 +1,7 @@
 // A reader's bytes taken in parts, and answered to a writer.
 //
-// What is written depends on the input alone, and not on how the reads part it: specs/Whole has the proof, over the step that each
-// read takes. Where a read or a write fails, the program stops.
+// What is written depends on the input alone, and not on how the reads part it: `answer_all` promises that, and specs/Whole has the
+// proof, over the step that each read takes. Where a read or a write fails, the program stops.
 ghost use Rattle.std.specs.Prelude.{◌+◌, ◌*◌, ◌<◌, ◌≤◌, length, OnOk, IfSome};
 ghost use Rattle.std.specs.Io.KnownBytes.{Appends};
 ghost use Rattle.text.specs.Pieces.{lines_of, last_line};
@@ -10,13 +10,14 @@ ghost use Rattle.weights_run.specs.Stream.{room_each, most_kept};
 
 use crate::lines;
 use std::io::{self, Read, Write};
+use text::Page;
 
 // Answers the reader's lines to the writer. Where a read or a write fails, it just stops.
 pub fn run<R: Read, W: Write>(reader: &mut R, writer: &mut W) {
     let _ = answer_all(reader, writer);
 }
 
-// The same, and tells what failed. Where nothing does, the whole output for all that the reader had left has been written.
+// The same, and tells what failed. Where nothing does, the whole output for all that the reader had left stands after what the writer held.
 pub fn answer_all<R: Read, W: Write>(reader: &mut R, writer: &mut W) -> io::Result<()>
     ensures { OnOk result (IfSome (R.remaining reader.old)
         (λ input. Appends (W.contents writer.old) (W.contents writer.new) (output_of input))) }
@@ -62,6 +63,11 @@ fn answer_last<W: Write>(writer: &mut W, line: &[u8], out: &mut [u8]) -> io::Res
     if line.is_empty() {
         return Ok(());
     }
-    let written = lines::answer_line(line, out, 0);
-    writer.write_all(&out[..written])
+    let mut page = Page {
+        bytes: out,
+        next: 0,
+    };
+    lines::answer_line(line, &mut page);
+    let written = page.next;
+    writer.write_all(&page.bytes[..written])
 }

@@ -8,6 +8,6 @@ use Rattle.weights_run.proofs.lines.answer_line.Goals as goal
 pub put_answer-requires : goal.put_answer-requires
 put_answer-requires c = rw (c.answer_to.ensures, c.parse.ensures) (omega (arith, answer_fits (line_of c.args.line.now)))
 
-pub returns : goal.returns
+pub returns-clause-put : goal.returns-clause-put
 unfolding answer_line
-returns c = rw (c.answer_to.ensures, c.parse.ensures) at c.put_answer.ensures
+returns-clause-put c = rw (c.answer_to.ensures, c.parse.ensures) at c.put_answer.ensures.put

@@ -10,12 +10,9 @@ use Rattle.weights_run.specs.Reads.{no_last, one_last}
 use Rattle.weights_run.proofs.stream.answer_last.Goals as goal
 
 pub slice_bounds-write_all-end : goal.slice_bounds-write_all-end
-slice_bounds-write_all-end g c = put_within c.args.out.now 0 _ zero-le c.answer_line-written.ensures
-
-pub slice_bounds-write_all-end-2 : goal.slice_bounds-write_all-end-2
-slice_bounds-write_all-end-2 g c =
-    let written = c.answer_line-written in
-    sym (length-take-le written.result written.new.out (put_within c.args.out.now 0 _ zero-le written.ensures))
+slice_bounds-write_all-end g c =
+    let page = c.answer_line.new.out in
+    sym (length-take-le page.next page.bytes.now (put_within c.args.out.now 0 _ zero-le c.answer_line.ensures.put))
 
 pub returns-then-is_empty : goal.returns-then-is_empty
 returns-then-is_empty g c =
@@ -25,8 +22,8 @@ returns-then-is_empty g c =
 pub returns : goal.returns
 returns g c =
     let line = c.args.line.now in
-    let written = c.answer_line-written in
+    let page = c.answer_line.new.out in
     let some : 0 < length line = grind (arith, nat_tests, c.if-is_empty.ensures) in
-    let holds : take written.result written.new.out ≡ answer_line line =
-    ap (λ (p : Page). filled_part p) written.ensures ∙ front_holds c.args.out.now (answer_line line) (omega (arith, line_fits line)) in
+    let holds : take page.next page.bytes.now ≡ answer_line line =
+    ap (λ (p : Page). filled_part p) c.answer_line.ensures.put ∙ front_holds c.args.out.now (answer_line line) (omega (arith, line_fits line)) in
     rw (one_last line some, ← holds) c.write_all.ensures.bytes
