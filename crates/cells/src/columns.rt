@@ -1,4 +1,5 @@
-// Tests over n cells of a table from a place on. A loop has no branch, so that LLVM tests many cells at once.
+// Tests over n cells of a table from a place on. A loop has no branch, so that LLVM tests many cells at once. A column is given by its place and a
+// count, and not as a slice: each of the sixteen calls of the store's check would write its place twice.
 ghost use Rattle.std.specs.Prelude.{◌≡◌, ◌+◌, ◌≤◌, ◌<◌, ◌^◌, length, get_or, ltb};
 ghost use Rattle.cells.specs.Cells.{every, all_falling};
 

@@ -1,5 +1,8 @@
 // Tables of ids. Place p of a table has the id's first four bytes as one number, its key, in keys[p],
 // and the other 28 bytes in rests from p * 28 on: a search goes through the keys alone.
+//
+// The two columns are two slices: they are lent to be read by one caller and to be written by another, so a struct of both would be two. A search is given
+// its first place and a count, since slices would have to be cut by cells in one column and by 28 bytes in the other.
 ghost use Rattle.std.specs.Prelude.{◌≡◌, not, ◌+◌, ◌-◌, ◌≤◌, get_or, eqb};
 ghost use Rattle.cells.specs.Cells.{every, first_where, IsId, same_id, key_of, id_at, Places, keys_put, rests_put, has_id, first_id};
 

@@ -13,7 +13,8 @@ pub fn place_of(s: &[u8], b: u8) -> usize
 }
 
 // Moves the bytes from `from` up to `to` to the front of buf, at most `most` of them, and gives their
-// number. So what is left of one read stands before what the next read brings.
+// number. So what is left of one read stands before what the next read brings. The part is given by its
+// ends, since a slice of it could not be moved within the buffer that it is of.
 pub fn keep(buf: &mut [u8], from: usize, to: usize, most: usize) -> usize
     ensures { page buf.new result ≡ kept_of buf.old from to most }
 {

@@ -1,12 +1,7 @@
 -- Each way out is one case of the verdict; a fine one has the call's ids as they were located.
-use Rattle.std.proofs.Common.{arith}
 use Rattle.store.specs.Parts.{store_seen}
 use Rattle.dag.specs.Judging.{judges_refused, judges_fine, room_names, room_children, room_nulls, room_fine}
-use Rattle.dag.specs.Begun.{name_parts}
 use Rattle.dag.proofs.judge.judge_room.Goals as goal
-
-pub locate-at-requires : goal.locate-at-requires
-locate-at-requires c = rw c.ids.ensures (name_parts (store_seen c.args.view.now) c.requires.0, omega (arith, c.requires.1))
 
 pub returns-then-used-at : goal.returns-then-used-at
 returns-then-used-at c =

@@ -5,9 +5,6 @@ use Rattle.dag.proofs.Begun.{enterable, insert_keepable}
 use Rattle.dag.proofs.Entering.{IsMissing, names_located, passed_on, missing_at, none_missing, tried_stopped, tried_passed}
 use Rattle.dag.proofs.plain.apply_insert.Goals as goal
 
-pub begin-requires : goal.begin-requires
-begin-requires c = ((c.requires.0.sound, c.requires.0.short), (c.requires.1, omega (arith, c.requires.1.fresh, c.requires.0.name_room)))
-
 pub enter-requires : goal.enter-requires
 enter-requires c =
     let names = names_located (store_in c.args.parts.now) c.args.tx.now.id.now c.args.tx.now.parents.now c.args.at (search rules) c.requires.0.short c.requires.1 in

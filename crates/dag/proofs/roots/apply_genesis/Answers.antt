@@ -8,9 +8,6 @@ use Rattle.dag.proofs.Begun.{enterable, genesis_parts, genesis_record, genesis_k
 use Rattle.dag.proofs.Entering.{names_located, genesis_known, genesis_new}
 use Rattle.dag.proofs.roots.apply_genesis.Goals as goal
 
-pub begin-requires : goal.begin-requires
-begin-requires c = ((c.requires.0.sound, c.requires.0.short), (c.requires.1, omega (arith, c.requires.1.fresh, c.requires.0.name_room)))
-
 pub enter_held-requires : goal.enter_held-requires
 enter_held-requires c =
     let names = names_located (store_in c.args.parts.now) c.args.tx.now.id.now c.args.tx.now.parents.now c.args.at (search rules) c.requires.0.short c.requires.1 in
