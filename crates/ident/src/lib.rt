@@ -56,6 +56,7 @@ impl Nullifier {
     }
 }
 
+// The hash of the tag, the key and the nullifier; a key over the limit is refused.
 #[tactic(auto, using(crate::specs::Parts::id_refused, crate::specs::Parts::id_served))]
 pub fn compute_id(key: &[u8], nullifier: Nullifier) -> Result<[u8; 32], OutOfRange>
     ensures { result ≡ computed_id key.now nullifier.0 }
@@ -79,7 +80,7 @@ pub enum WorkRefusal {
 }
 
 // The hash of the header and the nonce.
-#[tactic(auto, using(crate::specs::Parts::joined_none, crate::specs::Parts::joined_more, crate::specs::Parts::work_parts_le))]
+#[tactic(auto, using(crate::specs::Parts::work_parts_le))]
 fn work_hash(key: &[u8], parents: &[[u8; 32]], nullifier: Nullifier, nonce: u64) -> [u8; 32]
     ensures { result ≡ work_hash key.now parents.now nullifier.0 nonce }
 {
@@ -93,8 +94,9 @@ fn work_hash(key: &[u8], parents: &[[u8; 32]], nullifier: Nullifier, nonce: u64)
         .finish()
 }
 
-// Whether the hash is at most the target, both read from their first byte.
-#[tactic(auto, using(crate::specs::Parts::work_long, crate::specs::Parts::work_range, crate::specs::Parts::work_by_cmp))]
+// Whether the hash of the header and the nonce is at most the target, both read from their first byte. Too long a list is refused before
+// too long a key.
+#[tactic(auto, using(crate::specs::Parts::work_long, crate::specs::Parts::work_range))]
 pub fn work(
     key: &[u8],
     parents: &[[u8; 32]],

@@ -76,6 +76,15 @@ impl Hasher {
     }
 }
 
+// The hasher that has taken nothing in.
+impl Default for Hasher {
+    ghost is_default = { λ h. h ≡ after [] };
+
+    fn default() -> Hasher {
+        Hasher::new()
+    }
+}
+
 pub fn sha3_256(message: &[u8]) -> [u8; 32]
     ensures value { result ≡ sha3 message.now }
     ensures of_bits { bits_of result ≡ sha3_256 (bits_of message.now) }
