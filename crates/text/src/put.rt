@@ -46,7 +46,7 @@ impl Page<'_> {
         self.put_bytes(&digits[..k]);
     }
 
-    // A signed number in decimal, with `-` in front where it is below zero.
+    // A signed number in decimal, with `-` in front where it is below zero. Inlined: `weights` puts two of them on a line.
     #[inline]
     pub fn put_signed(&mut self, z: i32)
         ensures same_buffer { self.new.bytes.ghost_name ≡ self.old.bytes.ghost_name }
