@@ -25,9 +25,12 @@ pub record Judges (t : Store) (x : Id) (ps : List Id) (v : Verdict) (r : Result 
   pub verdict : verdict_of r ≡ v
   pub located : (at : Located) → r ≡ Ok at → Locates t (called x ps) (suc (length ps)) at
 
-pub judges_refused : (t : Store) (x : Id) (ps : List Id) (v : Verdict) (d : DagRefusal) → Err d ≡ v → Judges t x ps v (Err d)
-judges_refused t x ps v d q =
-    record { verdict = q; located = λ (at : Located) (e : Err d ≡ Ok at). absurd (let z : ◌≡◌ {A = ℕ} 0 1 = cc in omega arith) }
+pub judges_refused : (t : Store) (x : Id) (ps : List Id) (v : Verdict) (r : Result Located DagRefusal) (d : DagRefusal) → verdict_of r ≡ Err d → Err d ≡ v → Judges t x ps v r
+judges_refused t x ps v r d e q =
+    record {
+      verdict = e ∙ q;
+      located = λ (at : Located) (k : r ≡ Ok at). absurd (let f : Err d ≡ Ok tt = sym e ∙ ap verdict_of k in let z : ◌≡◌ {A = ℕ} 0 1 = cc in omega arith);
+    }
 
 pub judges_fine : (t : Store) (x : Id) (ps : List Id) (v : Verdict) (at : Located) → Ok tt ≡ v → Locates t (called x ps) (suc (length ps)) at → Judges t x ps v (Ok at)
 judges_fine t x ps v at q l = record { verdict = q; located = λ (a : Located) (e : Ok at ≡ Ok a). let d : at ≡ a = cc in rw (← d) l }

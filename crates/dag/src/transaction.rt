@@ -4,8 +4,7 @@ ghost use Rattle.std.specs.Prelude.{◌≡◌};
 use ident::Nullifier;
 use naming::Called;
 
-// A record as a caller lends it: its id, its nullifier, and the ids of its parents. It is not checked that the id is the
-// hash of the other two.
+// A record as a caller lends it: its id, its nullifier, and the ids of its parents. How the id is made is not checked.
 #[derive(Clone, Copy)]
 pub struct Transaction<'a> {
     pub id: &'a [u8; 32],
