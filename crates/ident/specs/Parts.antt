@@ -1,5 +1,5 @@
 -- Parts hashed one after another are the concatenations that the definitions hash.
-use Rattle.std.specs.Prelude.{ℕ, ◌+◌, ◌<◌, ◌≤◌, ◌≡◌, Bool, true, false, take, get_or, Ok, Err}
+use Rattle.std.specs.Prelude.{ℕ, ◌+◌, ◌<◌, ◌≤◌, ◌≡◌, Bool, true, false, take, get_or, replicate, Ok, Err}
 use Rattle.std.proofs.Common.{subst, sym, ap, ◌∙◌, add-one, take-suc}
 use mathlib.Core.List.{List, [], ◌∷◌, ◌++◌, append_assoc, append-nil}
 use native.Mathlib.Omega.{arith}
@@ -11,7 +11,7 @@ use Rattle.std.proofs.lemmas.Grind.{common_steps}
 use Rattle.sha3.specs.Hash.{sha3}
 use Rattle.sha3.specs.Laws.{sha3_length, sha3_bytes}
 use Rattle.ident.specs.Order.{Bytes, at_most_by_cmp, cmp_at_most}
-use Rattle.ident.specs.Ident.{little_endian, joined, nullifier_tag, id_tag, nullifier_of, id_of, computed_id, key_limit, parent_limit, work_hash, work_of, at_most}
+use Rattle.ident.specs.Ident.{little_endian, joined, nullifier_tag, id_tag, nullifier_of, id_of, id_reply, id_beside, computed_id, key_limit, parent_limit, work_hash, work_of, at_most}
 use Rattle.ident.specs.declared.WorkRefusal.TheVariants.{ListTooLong, OutOfRange}
 
 -- the library's bytes of a number of 64 bits
@@ -28,6 +28,10 @@ module _ (key nullifier : List ℕ) where
   pub id_refused : key_limit < length key → Err (record {}) ≡ computed_id key nullifier
   unfolding computed_id
   id_refused h = rw (lt-ltb key_limit (length key) h)
+
+  -- the reply's number and what stands beside it
+  pub id_refusal : key_limit < length key → (id_reply (computed_id key nullifier) ≡ 10) × (id_beside (computed_id key nullifier) ≡ replicate 32 0)
+  id_refusal h = (ap id_reply (sym (id_refused h)), ap id_beside (sym (id_refused h)))
 
   pub id_served : (hash : List ℕ) → length key ≤ key_limit → hash ≡ sha3 ((id_tag ++ key) ++ nullifier)
       → Ok hash ≡ computed_id key nullifier
