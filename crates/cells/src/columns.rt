@@ -1,5 +1,5 @@
 // Tests over n cells of a table from a place on. A loop has no branch, so that LLVM tests many cells at once. A column is given by its place and a
-// count, and not as a slice: each of the sixteen calls of the store's check would write its place twice.
+// count, and not as a slice, as it is in the definitions: the store's columns (`column_right`) and the laws of `all_below` speak of cells by place.
 ghost use Rattle.std.specs.Prelude.{◌≡◌, ◌+◌, ◌≤◌, ◌<◌, ◌^◌, length, get_or, ltb};
 ghost use Rattle.cells.specs.Cells.{every, all_falling};
 

@@ -1,8 +1,8 @@
 // Tables of ids. Place p of a table has the id's first four bytes as one number, its key, in keys[p],
 // and the other 28 bytes in rests from p * 28 on: a search goes through the keys alone.
 //
-// The two columns are two slices: they are lent to be read by one caller and to be written by another, so a struct of both would be two. A search is given
-// its first place and a count, since slices would have to be cut by cells in one column and by 28 bytes in the other.
+// The two columns are two slices with a place and a count, as in `Places` and `first_id` of specs/: they are lent from one struct to be read and from
+// another to be written, so that a struct of the two would be two again.
 ghost use Rattle.std.specs.Prelude.{◌≡◌, not, ◌+◌, ◌-◌, ◌≤◌, get_or, eqb};
 ghost use Rattle.cells.specs.Cells.{every, first_where, IsId, same_id, key_of, id_at, Places, keys_put, rests_put, has_id, first_id};
 
@@ -21,7 +21,7 @@ fn key_of(x: &[u8; 32]) -> u32
     u32::from_le_bytes([x[0], x[1], x[2], x[3]])
 }
 
-// Whether two ids have the same bytes.
+// Whether two ids have the same bytes: `==`, under the name that the definitions have.
 pub fn same_id(x: &[u8; 32], y: &[u8; 32]) -> bool
     ensures { result ≡ same_id x.now y.now }
 {

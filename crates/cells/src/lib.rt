@@ -69,7 +69,7 @@ pub fn put<T: Copy>(s: &mut [T], i: usize, v: T)
     }
 }
 
-// The cells of row put from place `at` on, as far as the table reaches.
+// The cells of row put from place `at` on, as far as the table reaches: a slice from there on would have to reach so far.
 pub fn put_row<T: Cell>(s: &mut [T], at: usize, row: &[T])
     requires { at + length row.now < 2 ^ 64 }
     ensures { s.new ≡ row_put s.old at (λ j. get_or row.now j T.zero) (length row.now) }

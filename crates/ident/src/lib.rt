@@ -10,7 +10,7 @@ const KEY_LIMIT: usize = 4096;
 
 const PARENT_LIMIT: usize = 16;
 
-// The refusal of a divisor that is 0, and of a key that is too long.
+// The refusal of a divisor that is 0, and of a key that is too long. A type of this crate, which stands on none that has one.
 #[derive(Clone, Copy, Debug, PartialEq, Eq)]
 pub struct OutOfRange;
 

@@ -43,6 +43,7 @@ const ROUND_CONSTANTS: [u64; 24] = [
     0x8000_0000_8000_8008,
 ];
 
+// The two lists by functions with contracts, since a constant has none.
 fn rotations() -> [u32; 25]
     ensures { result ≡ listed 25 0 rotation }
 {
@@ -67,6 +68,7 @@ fn column(a: &[u64; 25], x: usize) -> u64
 fn from_columns(a: &[u64; 25]) -> [u64; 5]
     ensures { result ≡ effects a.now }
 {
+    // Filled by loops: in `array::from_fn` the closure would need what it asks written out.
     let mut c = [0u64; 5];
     for x in 0..5 {
         c[x] = column(a, x);
@@ -87,7 +89,7 @@ fn moved(a: &[u64; 25], d: [u64; 5], i: usize) -> u64
 }
 
 // χ of the lane b and the next two of its row, c and e, in the forms that it has where the veil leaves some of the three
-// complemented.
+// complemented. `Not` stands before the operand that is complemented, `Other` says that it is b.
 #[derive(Clone, Copy)]
 enum Form {
     And,

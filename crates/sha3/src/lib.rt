@@ -46,7 +46,7 @@ impl Hasher {
         Hasher { lanes, at }
     }
 
-    // `finish` comes here too.
+    // All bytes come through here, those of the padding too (`finish`).
     pub fn update(self, part: &[u8]) -> Hasher
         ensures value { result ≡ taken self part.now }
         ensures of_message { (m : List ℕ) → self ≡ after m → result ≡ after (m ++ part.now) }

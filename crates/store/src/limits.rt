@@ -1,5 +1,8 @@
 // The limits of a store by name, and the length and the columns of each lent part. specs/Limits.antt has the
-// same; a larger circle changes these two files alone.
+// same; a larger circle changes these two files, and the limit of parents in `ident`.
+//
+// The tables are columns of cells in lent parts, their lists run by number, and an absent number is 0, with 1 added to the others: a
+// store has no heap, and its layout is docs/STORE.md's.
 
 // Named ids, parents in any record, child entries, nullifiers, pending records, cached pairs.
 pub const NAME_LIMIT: usize = 8192;

@@ -1,6 +1,9 @@
 // The seven parts that a caller lends, as one value: to read, or to write too.
 //
 // Each part has a fixed length, and each of its cells a meaning (docs/STORE.md). A part of another length is no misuse: the calls refuse it.
+// So neither type has an invariant, and what a call needs of its parts stands in its `requires`. Each call that changes parts says in its
+// clause `same` that they still hold the slices that were lent: without it a caller would not know what its slices hold. Two types, since
+// one type cannot stand for `&mut` and for `&`.
 ghost use Rattle.std.specs.Prelude.{◌≡◌};
 ghost use Rattle.store.specs.Parts.{store_in, store_seen};
 

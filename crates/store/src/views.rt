@@ -1,4 +1,5 @@
-// What single cells mean: the views of the store that the calls read.
+// What single cells mean: the views of the store that the calls read. One function a view, by its name in specs/Tables: a number of a cell as an
+// argument would say less.
 ghost use Rattle.std.specs.Prelude.{◌≡◌, ◌<◌};
 ghost use Rattle.store.specs.Limits.{name_limit};
 ghost use Rattle.store.specs.Tables.{names, entries, spent, held, last_entry};

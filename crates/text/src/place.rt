@@ -3,7 +3,8 @@ ghost use Rattle.std.specs.Prelude.{◌≡◌};
 ghost use Rattle.text.specs.Pieces.{place_of};
 ghost use Rattle.text.specs.Put.{page, kept_of};
 
-// The place of the first byte of s that is b, or s's length where there is none. Out of line, since LLVM then makes five
+// The place of the first byte of s that is b, or s's length where there is none: no Option, since place_of of
+// specs/Pieces gives the length too. Out of line, since LLVM then makes five
 // instructions a byte of it, and eight inside a caller that owns the buffer.
 #[inline(never)]
 pub fn place_of(s: &[u8], b: u8) -> usize

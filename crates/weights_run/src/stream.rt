@@ -40,7 +40,7 @@ fn answer_reads<R: Read, W: Write>(
     ensures { OnOk result (IfSome (R.remaining reader.old)
         (λ bytes. Appends (W.contents writer.old) (W.contents writer.new) (answers_to (lines_of bytes)))) }
 {
-    // So much of an unfinished line stands at the front of the input.
+    // So much of an unfinished line stands at the front of the input: a buffer of fixed size, since the program has no heap.
     let mut kept = 0;
     // A proved loop has to end, and nothing says that the input does: no run comes to the last of these turns.
     for _ in 0..u64::MAX {
