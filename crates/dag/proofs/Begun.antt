@@ -66,41 +66,42 @@ module _ (t : Store) (x : Id) (ps : List Id) (p : ℕ) (r : Room t x ps p) where
         parents = λ (j : ℕ) (h : 0 ≤ j) (k : j < 0 + length ps). b.named (suc j) (omega arith);
       }
 
-  -- and so have the steps of the code, which has the names in a list
-  module _ (c : ℕ) (ns : List ℕ) (l : Names t x ps c ns) (u : Store) (hu : u ≡ begun t x ps) where
+  -- and so have the steps of the code, which has the names
+  module _ (c : ℕ) (ns : ℕ → ℕ) (k : ℕ) (l : Names t x ps c ns k) (u : Store) (hu : u ≡ begun t x ps) where
     begun_here : Begun u
     begun_here = rw hu begun_is
 
     pub own_below : c < name_limit
     own_below = let b = begun_here in omega (arith, l.own, b.named 0 (omega arith), b.sound.within.few_names)
 
-    pub enterable : Enterable u ns
+    pub enterable : Enterable u ns k
     enterable =
         let b = begun_here in
         record {
           head_long = b.sound.lengths.head_long;
+          few = omega (arith, l.count, r.short);
           room = omega (arith, b.entries_same, l.count, r.child_room);
-          named = λ (j : ℕ) (h : j < length ns).
-              let k : j < length ps = omega (arith, l.count) in
-              omega (arith, l.parents j k, b.named (suc j) (omega arith), b.sound.within.few_names);
+          named = λ (j : ℕ) (h : j < k).
+              let m : j < length ps = omega (arith, l.count) in
+              omega (arith, l.parents j m, b.named (suc j) (omega arith), b.sound.within.few_names);
         }
 
     -- the same walk over the names of the list
-    can_enter_here : CanEnter u c (λ j. get_or ns j 0) 0 (length ns)
+    can_enter_here : CanEnter u c ns 0 k
     can_enter_here =
         let b = begun_here in
         record {
           sound = b.sound;
           room = omega (arith, b.entries_same, l.count, r.child_room);
           own = omega (arith, l.own, b.named 0 (omega arith));
-          parents = λ (j : ℕ) (h : 0 ≤ j) (k : j < 0 + length ns).
+          parents = λ (j : ℕ) (h : 0 ≤ j) (i : j < 0 + k).
               let m : j < length ps = omega (arith, l.count) in
               omega (arith, l.parents j m, b.named (suc j) (omega arith));
         }
 
     -- w is what the walk leaves: the nullifier and the record can be kept there
-    module _ (w : Store) (o : OnlyEntries u w (length ns)) where
-      only_keepable : spent t < null_limit → Keepable w c ns
+    module _ (w : Store) (o : OnlyEntries u w k) where
+      only_keepable : spent t < null_limit → Keepable w c k
       only_keepable h =
           record {
             few = omega (arith, l.count, r.short);
@@ -113,23 +114,23 @@ module _ (t : Store) (x : Id) (ps : List Id) (p : ℕ) (r : Room t x ps p) where
       only_place : (z : Id) → place_of w z ≡ place_of t z
       only_place z = o.nulls.place_same z ∙ begun_here.place_same z
 
-    pub insert_keepable : (e : Entered) (w : Store) → walked e w ≡ entered u c (λ j. get_or ns j 0) 0 (length ns) → spent t < null_limit → Keepable w c ns
-    insert_keepable e w q = only_keepable w (rw (ap (λ (d : Walked). d.parts) q) (entered_only u _ _ 0 (length ns) can_enter_here))
+    pub insert_keepable : (e : Entered) (w : Store) → walked e w ≡ entered u c ns 0 k → spent t < null_limit → Keepable w c k
+    insert_keepable e w q = only_keepable w (rw (ap (λ (d : Walked). d.parts) q) (entered_only u _ _ 0 k can_enter_here))
 
-    module _ (w : Store) (q : w ≡ held_entered u c (λ j. get_or ns j 0) (length ns)) where
-      held_here : OnlyEntries u w (length ns)
-      held_here = rw q (held_only u _ _ (length ns) can_enter_here)
+    module _ (w : Store) (q : w ≡ held_entered u c ns k) where
+      held_here : OnlyEntries u w k
+      held_here = rw q (held_only u _ _ k can_enter_here)
 
       pub genesis_parts : NullsRight w
       genesis_parts = null_parts w held_here.sound
 
-      pub genesis_record : (z : Id) (f : Option ℕ) (n : ℕ) → f ≡ place_of w z → f ≡ Some n → (c < name_limit) × ((n < null_limit) × (length ns ≤ parent_limit))
+      pub genesis_record : (z : Id) (f : Option ℕ) (n : ℕ) → f ≡ place_of w z → f ≡ Some n → (c < name_limit) × ((n < null_limit) × (k ≤ parent_limit))
       genesis_record z f n e h =
           let b = first_found (has_id w.keys w.rests nulls_at z) 0 (spent w) n (sym e ∙ h) in
           (own_below, (omega (arith, b.below, held_here.sound.within.few_spent), omega (arith, l.count, r.short)))
 
-      pub genesis_keepable : (z : Id) (f : Option ℕ) → p ≡ places_wanted (place_of t z) → f ≡ place_of w z → f ≡ None → Keepable w c ns
-      genesis_keepable z f k e h =
+      pub genesis_keepable : (z : Id) (f : Option ℕ) → p ≡ places_wanted (place_of t z) → f ≡ place_of w z → f ≡ None → Keepable w c k
+      genesis_keepable z f d e h =
           let a : place_of t z ≡ None = sym (only_place w held_here z) ∙ sym e ∙ h in
-          let d : p ≡ 1 = k ∙ rw a in
+          let one : p ≡ 1 = d ∙ rw a in
           only_keepable w held_here (omega (arith, r.null_room))

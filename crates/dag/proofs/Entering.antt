@@ -21,31 +21,36 @@ use Rattle.dag.specs.Rules.{Reply, Entered, Left, left, empty_of, walked, pick_w
 
 ------ names read from a list stand for the names themselves
 
--- c is the name of the record, and ns are those of its parents
-pub record Names (t : Store) (x : Id) (ps : List Id) (c : ℕ) (ns : List ℕ) : Type 0 where
+-- c is the name of the record, and the first k of ns are those of its parents
+pub record Names (t : Store) (x : Id) (ps : List Id) (c : ℕ) (ns : ℕ → ℕ) (k : ℕ) : Type 0 where
   pub own : c ≡ own_name t x ps
-  pub count : length ns ≡ length ps
-  pub parents : (j : ℕ) → j < length ps → get_or ns j 0 ≡ parent_name t x ps j
+  pub count : k ≡ length ps
+  pub parents : (j : ℕ) → j < length ps → ns j ≡ parent_name t x ps j
 
 -- the first of the located numbers is the record's own name, and those after it are its parents' names
-module _ (t : Store) (x : Id) (ps : List Id) (at : Located) (long : length at.numbers ≡ call_limit) (short : length ps ≤ parent_limit) (l : Locates t (called x ps) (suc (length ps)) at) where
+module _ (t : Store) (x : Id) (ps : List Id) (at : Located) (l : Locates t (called x ps) (suc (length ps)) at) where
   pub own_located : get_or at.numbers 0 0 ≡ own_name t x ps
   own_located = l.numbers 0 (omega arith)
 
   pub parent_located : (j : ℕ) → j < length ps → get_or at.numbers (1 + j) 0 ≡ parent_name t x ps j
   parent_located j h = let e : 1 + j ≡ suc j = omega arith in rw e (l.numbers (suc j) (omega arith))
 
-  parent_here : (j : ℕ) → j < length ps → get_or (take (length ps + 1 - 1) (drop 1 at.numbers)) j 0 ≡ parent_name t x ps j
-  parent_here j h =
-      get_or-take (length ps + 1 - 1) (drop 1 at.numbers) j 0 (omega arith) ∙ get_or_after_one at.numbers j 0 ∙ parent_located j h
+  -- read from the numbers themselves, or from a slice of them
+  pub names_numbers : Names t x ps (get_or at.numbers 0 0) (λ j. get_or at.numbers (1 + j) 0) (length ps)
+  names_numbers = record { own = own_located; count = refl; parents = parent_located }
 
-  pub names_located : Names t x ps (get_or at.numbers 0 0) (take (length ps + 1 - 1) (drop 1 at.numbers))
-  names_located =
-      record {
-        own = own_located;
-        count = omega (arith, length-take-le (length ps + 1 - 1) (drop 1 at.numbers) (omega (arith, length-drop 1 at.numbers)));
-        parents = parent_here;
-      }
+  module _ (long : length at.numbers ≡ call_limit) (short : length ps ≤ parent_limit) where
+    parent_here : (j : ℕ) → j < length ps → get_or (take (length ps + 1 - 1) (drop 1 at.numbers)) j 0 ≡ parent_name t x ps j
+    parent_here j h =
+        get_or-take (length ps + 1 - 1) (drop 1 at.numbers) j 0 (omega arith) ∙ get_or_after_one at.numbers j 0 ∙ parent_located j h
+
+    pub names_located : Names t x ps (get_or at.numbers 0 0) (λ j. get_or (take (length ps + 1 - 1) (drop 1 at.numbers)) j 0) (length (take (length ps + 1 - 1) (drop 1 at.numbers)))
+    names_located =
+        record {
+          own = own_located;
+          count = omega (arith, length-take-le (length ps + 1 - 1) (drop 1 at.numbers) (omega (arith, length-drop 1 at.numbers)));
+          parents = parent_here;
+        }
 
 record_cong : (t : Store) (c p : ℕ) (ns ms : ℕ → ℕ) (k : ℕ) → ((j : ℕ) → j < k → ns j ≡ ms j) → with_record t c p ns k ≡ with_record t c p ms k
 unfolding with_record
@@ -166,42 +171,42 @@ module _ (t : Store) (b : Bool) (hb : b ≡ lengths_right t) where
   unfolding empty_of
   empty_done u e q = rw (← hb, e, q)
 
-module _ (t : Store) (x z : Id) (ps : List Id) (u : Store) (c : ℕ) (ns : List ℕ) (hu : u ≡ begun t x ps) (l : Names t x ps c ns) where
-  walk_here : entered u c (λ j. get_or ns j 0) 0 (length ns) ≡ entered (begun t x ps) (own_name t x ps) (parent_name t x ps) 0 (length ps)
+module _ (t : Store) (x z : Id) (ps : List Id) (u : Store) (c : ℕ) (ns : ℕ → ℕ) (k : ℕ) (hu : u ≡ begun t x ps) (l : Names t x ps c ns k) where
+  walk_here : entered u c ns 0 k ≡ entered (begun t x ps) (own_name t x ps) (parent_name t x ps) 0 (length ps)
   walk_here =
       rw (hu, l.own, l.count)
-      (entered_cong (begun t x ps) (own_name t x ps) (λ j. get_or ns j 0) (parent_name t x ps) 0 (length ps) (λ (j : ℕ) (h : j < 0 + length ps). l.parents j (omega arith)))
+      (entered_cong (begun t x ps) (own_name t x ps) ns (parent_name t x ps) 0 (length ps) (λ (j : ℕ) (h : j < 0 + length ps). l.parents j (omega arith)))
 
-  record_here : (w : Store) (p : ℕ) → with_record w c p (λ j. get_or ns j 0) (length ns) ≡ with_record w (own_name t x ps) p (parent_name t x ps) (length ps)
-  record_here w p = rw (l.own, l.count) (record_cong w (own_name t x ps) p (λ j. get_or ns j 0) (parent_name t x ps) (length ps) l.parents)
+  record_here : (w : Store) (p : ℕ) → with_record w c p ns k ≡ with_record w (own_name t x ps) p (parent_name t x ps) (length ps)
+  record_here w p = rw (l.own, l.count) (record_cong w (own_name t x ps) p ns (parent_name t x ps) (length ps) l.parents)
 
   -- a plain insert that stopped at an unheld parent, and one that passed them all
-  pub tried_stopped : (r : Entered) (w : Store) (i : ℕ) → r ≡ Err i → walked r w ≡ entered u c (λ j. get_or ns j 0) 0 (length ns) → left (Err (MissingParent i)) w ≡ insert_tried t x z ps
+  pub tried_stopped : (r : Entered) (w : Store) (i : ℕ) → r ≡ Err i → walked r w ≡ entered u c ns 0 k → left (Err (MissingParent i)) w ≡ insert_tried t x z ps
   unfolding insert_tried
   tried_stopped r w i e q =
       let a : entered (begun t x ps) (own_name t x ps) (parent_name t x ps) 0 (length ps) ≡ walked (Err i) w = sym walk_here ∙ sym q ∙ rw e in
       rw a
 
-  pub tried_passed : (r : Entered) (w v : Store) → r ≡ Ok tt → walked r w ≡ entered u c (λ j. get_or ns j 0) 0 (length ns) → v ≡ kept_new w c z (λ j. get_or ns j 0) (length ns) → left (Ok tt) v ≡ insert_tried t x z ps
+  pub tried_passed : (r : Entered) (w v : Store) → r ≡ Ok tt → walked r w ≡ entered u c ns 0 k → v ≡ kept_new w c z ns k → left (Ok tt) v ≡ insert_tried t x z ps
   unfolding insert_tried
-  tried_passed r w v e q k =
+  tried_passed r w v e q h =
       let a : entered (begun t x ps) (own_name t x ps) (parent_name t x ps) 0 (length ps) ≡ walked (Ok tt) w = sym walk_here ∙ sym q ∙ rw e in
-      let b : v ≡ kept_new w (own_name t x ps) z (parent_name t x ps) (length ps) = k ∙ record_here (with_null w z) (spent w) in
+      let b : v ≡ kept_new w (own_name t x ps) z (parent_name t x ps) (length ps) = h ∙ record_here (with_null w z) (spent w) in
       rw (a, b)
 
-  genesis_here : (w : Store) (f : Option ℕ) (v : Store) → w ≡ held_entered u c (λ j. get_or ns j 0) (length ns) → f ≡ place_of w z → v ≡ kept_at f w (own_name t x ps) z (parent_name t x ps) (length ps) → v ≡ genesis_done t x z ps
+  genesis_here : (w : Store) (f : Option ℕ) (v : Store) → w ≡ held_entered u c ns k → f ≡ place_of w z → v ≡ kept_at f w (own_name t x ps) z (parent_name t x ps) (length ps) → v ≡ genesis_done t x z ps
   unfolding genesis_done
-  genesis_here w f v e q k =
+  genesis_here w f v e q h =
       let a : w ≡ held_entered (begun t x ps) (own_name t x ps) (parent_name t x ps) (length ps) =
-      e ∙ rw (hu, l.own, l.count) (held_cong (begun t x ps) (own_name t x ps) (λ j. get_or ns j 0) (parent_name t x ps) (length ps) l.parents) in
-      k ∙ rw (q, ← a)
+      e ∙ rw (hu, l.own, l.count) (held_cong (begun t x ps) (own_name t x ps) ns (parent_name t x ps) (length ps) l.parents) in
+      h ∙ rw (q, ← a)
 
   -- a genesis insert whose nullifier is there, and one whose nullifier is new
-  pub genesis_known : (w : Store) (f : Option ℕ) (p : ℕ) (v : Store) → w ≡ held_entered u c (λ j. get_or ns j 0) (length ns) → f ≡ place_of w z → f ≡ Some p → v ≡ with_record w c p (λ j. get_or ns j 0) (length ns) → v ≡ genesis_done t x z ps
-  genesis_known w f p v e q h k = genesis_here w f v e q (k ∙ record_here w p ∙ rw h)
+  pub genesis_known : (w : Store) (f : Option ℕ) (p : ℕ) (v : Store) → w ≡ held_entered u c ns k → f ≡ place_of w z → f ≡ Some p → v ≡ with_record w c p ns k → v ≡ genesis_done t x z ps
+  genesis_known w f p v e q h g = genesis_here w f v e q (g ∙ record_here w p ∙ rw h)
 
-  pub genesis_new : (w : Store) (f : Option ℕ) (v : Store) → w ≡ held_entered u c (λ j. get_or ns j 0) (length ns) → f ≡ place_of w z → f ≡ None → v ≡ kept_new w c z (λ j. get_or ns j 0) (length ns) → v ≡ genesis_done t x z ps
-  genesis_new w f v e q h k = genesis_here w f v e q (k ∙ record_here (with_null w z) (spent w) ∙ rw h)
+  pub genesis_new : (w : Store) (f : Option ℕ) (v : Store) → w ≡ held_entered u c ns k → f ≡ place_of w z → f ≡ None → v ≡ kept_new w c z ns k → v ≡ genesis_done t x z ps
+  genesis_new w f v e q h g = genesis_here w f v e q (g ∙ record_here (with_null w z) (spent w) ∙ rw h)
 
 module _ (t : Store) (x z : Id) (ps : List Id) where
   pub insert_refused : (d : DagRefusal) → insert_verdict t x z ps ≡ Err d → left (Err d) t ≡ insert_of t x z ps

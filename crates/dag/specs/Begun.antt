@@ -24,15 +24,16 @@ NullsRight t = NullParts t.head t.keys t.rests
 pub null_parts : (t : Store) → Sound t → NullParts t.head t.keys t.rests
 null_parts t s = record { few = s.within.few_spent; keys_long = s.lengths.keys_long; rests_long = s.lengths.rests_long }
 
--- there are entries free for all of ns, and these are names
-pub record Enterable (t : Store) (ns : List ℕ) : Type 0 where
+-- there are entries free for the first k of ns, and these are names
+pub record Enterable (t : Store) (ns : ℕ → ℕ) (k : ℕ) : Type 0 where
   pub head_long : length t.head ≡ head_length
-  pub room : entries t + length ns ≤ child_limit
-  pub named : (j : ℕ) → j < length ns → get_or ns j 0 < name_limit
+  pub few : k ≤ parent_limit
+  pub room : entries t + k ≤ child_limit
+  pub named : (j : ℕ) → j < k → ns j < name_limit
 
--- there is a place for a nullifier, and a record of name c has room for the parents ns
-pub record Keepable (t : Store) (c : ℕ) (ns : List ℕ) : Type 0 where
-  pub few : length ns ≤ parent_limit
+-- there is a place for a nullifier, and a record of name c has room for k parents
+pub record Keepable (t : Store) (c k : ℕ) : Type 0 where
+  pub few : k ≤ parent_limit
   pub room : spent t < null_limit
   pub keys_long : length t.keys ≡ keys_length
   pub rests_long : length t.rests ≡ rests_length

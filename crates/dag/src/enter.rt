@@ -26,7 +26,7 @@ pub fn begin(parts: &mut Parts, tx: &Transaction, at: Located)
 
 // The parents in order: each held one gets the child entry, and the first unheld one stops, with its place.
 pub fn enter(parts: &mut Parts, child: u16, parents: &[u16]) -> Result<(), usize>
-    requires { Enterable (store_in parts.old) parents.now }
+    requires { Enterable (store_in parts.old) (λ j. get_or parents.now j 0) (length parents.now) }
     ensures left { walked result (store_in parts.new) ≡ entered (store_in parts.old) child (λ j. get_or parents.now j 0) 0 (length parents.now) }
     ensures same { SameSlices parts.old parts.new }
 {
@@ -42,7 +42,7 @@ pub fn enter(parts: &mut Parts, child: u16, parents: &[u16]) -> Result<(), usize
 
 // The same list gone through to its end: only held parents get entries.
 pub fn enter_held(parts: &mut Parts, child: u16, parents: &[u16])
-    requires { Enterable (store_in parts.old) parents.now }
+    requires { Enterable (store_in parts.old) (λ j. get_or parents.now j 0) (length parents.now) }
     ensures left { store_in parts.new ≡ held_entered (store_in parts.old) child (λ j. get_or parents.now j 0) (length parents.now) }
     ensures same { SameSlices parts.old parts.new }
 {
@@ -56,7 +56,7 @@ pub fn enter_held(parts: &mut Parts, child: u16, parents: &[u16])
 
 // A new nullifier, and the record with it.
 pub fn keep_new(parts: &mut Parts, nullifier: &[u8; 32], child: u16, parents: &[u16])
-    requires { Keepable (store_in parts.old) child parents.now }
+    requires { Keepable (store_in parts.old) child (length parents.now) }
     ensures left { store_in parts.new ≡ kept_new (store_in parts.old) child nullifier.now (λ j. get_or parents.now j 0) (length parents.now) }
     ensures same { SameSlices parts.old parts.new }
 {
