@@ -59,6 +59,10 @@ differs x y e w =
 
 ------ the bytes of a key
 
+-- a number by its lowest digits, and what is above them
+pub four_digits : (k q1 q2 q3 d0 d1 d2 d3 : ℕ) → q1 * 256 + d0 ≡ k → q2 * 256 + d1 ≡ q1 → q3 * 256 + d2 ≡ q2 → q3 ≡ d3 → k ≡ d0 + d1 * 256 + d2 * 65536 + d3 * 16777216
+four_digits k q1 q2 q3 d0 d1 d2 d3 e0 e1 e2 e3 = omega arith
+
 module _ (x : Id) (b : Bytes x) where
   key_byte : (i : ℕ) → i < 4 → get_or (key_bytes (key_of x)) i 0 ≡ get_or x i 0
   unfolding key_of

@@ -4,7 +4,7 @@ use Rattle.std.proofs.Common.{sym, ap, ap₂, ◌∙◌, subst, inl, inr, ⊎_el
 use Rattle.std.proofs.Math.Nat.{mul-mod_left}
 use Rattle.std.proofs.Math.Pow.{mod-mod-pow, field}
 use Rattle.std.proofs.lemmas.Nat.{shr_le, mod-pow-add, shl-shr, or_shifted, or_lt}
-use Rattle.std.specs.Int.Bits.{bit_xor, bit_and, bit_or, or_self}
+use Rattle.std.specs.Int.Bits.{bit_xor, bit_and, bit_or, differ, or_self}
 use Rattle.std.specs.Int.Bits.{xor_assoc as xor_groups}
 use Rattle.std.proofs.lemmas.Nat.Bits.{bit_at-lt, bit_at-suc, bit_at-zero, bit_at_xor, bit_at_and, bit_at_or, bit_at_above, bit_at_cat_low, bit_at_cat_high, same_from_bits_below}
 use Rattle.keccak.specs.Fips202.{◌⊕◌, bit}
@@ -46,6 +46,20 @@ zero_plus v = omega arith
 
 min_is : (x y : ℕ) → x < 2 → y < 2 → min x y ≡ x * y
 min_is = agree 2 2 min ◌*◌ tt
+
+-- of two bits
+pub differ_is : (x y : ℕ) → x < 2 → y < 2 → differ x y ≡ x ⊕ y
+differ_is = agree 2 2 differ ◌⊕◌ tt
+
+pub max_lt : (x y : ℕ) → x < 2 → y < 2 → max x y < 2
+max_lt x y hx hy = omega arith
+
+pub product_lt : (x y : ℕ) → x < 2 → y < 2 → x * y < 2
+product_lt x y hx hy = subst (λ (n : ℕ). n < 2) (min_is x y hx hy) (omega arith)
+
+pub below_pow : (n : ℕ) → n < 2 ^ n
+below_pow zero = omega arith
+below_pow (suc n) = omega (arith, below_pow n, pow-suc 2 n)
 
 pub xor_assoc : (a b c : ℕ) → bit_xor (bit_xor a b) c ≡ bit_xor a (bit_xor b c)
 xor_assoc = xor_groups
