@@ -47,6 +47,10 @@ module _ (t : Store) (x : Id) (ps : List Id) (at : Located) (long : length at.nu
         parents = parent_here;
       }
 
+  -- c and ns are the names that the code makes of the numbers
+  pub names_made : (c : ℕ) (ns : List ℕ) → c ≡ get_or at.numbers 0 0 → ns ≡ take (length ps) (drop 1 at.numbers) → Names t x ps c ns
+  names_made c ns a b = let e : length ps + 1 - 1 ≡ length ps = omega arith in rw (a, b, ← e) names_located
+
 record_cong : (t : Store) (c p : ℕ) (ns ms : ℕ → ℕ) (k : ℕ) → ((j : ℕ) → j < k → ns j ≡ ms j) → with_record t c p ns k ≡ with_record t c p ms k
 unfolding with_record
 record_cong t c p ns ms k f = rw (put_cong t.nodes (parents_at + c * parent_limit) ns ms k f)
