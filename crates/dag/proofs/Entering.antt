@@ -40,17 +40,17 @@ module _ (t : Store) (x : Id) (ps : List Id) (at : Located) (l : Locates t (call
   names_numbers = record { own = own_located; count = refl; parents = parent_located }
 
   module _ (long : length at.numbers ≡ call_limit) (short : length ps ≤ parent_limit) where
-    parent_here : (j : ℕ) → j < length ps → get_or (take (length ps + 1 - 1) (drop 1 at.numbers)) j 0 ≡ parent_name t x ps j
-    parent_here j h =
-        get_or-take (length ps + 1 - 1) (drop 1 at.numbers) j 0 (omega arith) ∙ get_or_after_one at.numbers j 0 ∙ parent_located j h
+    parent_here : (j : ℕ) → j < length ps → get_or (take (length ps) (drop 1 at.numbers)) j 0 ≡ parent_name t x ps j
+    parent_here j h = get_or-take (length ps) (drop 1 at.numbers) j 0 h ∙ get_or_after_one at.numbers j 0 ∙ parent_located j h
 
-    pub names_located : Names t x ps (get_or at.numbers 0 0) (λ j. get_or (take (length ps + 1 - 1) (drop 1 at.numbers)) j 0) (length (take (length ps + 1 - 1) (drop 1 at.numbers)))
-    names_located =
-        record {
+    pub names_made : (c : ℕ) (ns : List ℕ) → c ≡ get_or at.numbers 0 0 → ns ≡ take (length ps) (drop 1 at.numbers) → Names t x ps c (λ j. get_or ns j 0) (length ns)
+    names_made c ns a b =
+        rw (a, b)
+        (record {
           own = own_located;
-          count = omega (arith, length-take-le (length ps + 1 - 1) (drop 1 at.numbers) (omega (arith, length-drop 1 at.numbers)));
+          count = omega (arith, length-take-le (length ps) (drop 1 at.numbers) (omega (arith, length-drop 1 at.numbers)));
           parents = parent_here;
-        }
+        })
 
 record_cong : (t : Store) (c p : ℕ) (ns ms : ℕ → ℕ) (k : ℕ) → ((j : ℕ) → j < k → ns j ≡ ms j) → with_record t c p ns k ≡ with_record t c p ms k
 unfolding with_record

@@ -1,9 +1,12 @@
 -- What the steps of a call ask of the parts that they read or write. That naming leaves it so stands in proofs/Begun.
-use Rattle.std.specs.Prelude.{ℕ, ◌+◌, ◌≤◌, ◌<◌, ◌≡◌, List, length, get_or}
+use Rattle.std.specs.Prelude.{ℕ, suc, ◌+◌, ◌≤◌, ◌<◌, ◌≡◌, List, length, get_or}
 use Rattle.store.specs.Limits.{name_limit, parent_limit, child_limit, null_limit, head_length, keys_length, rests_length}
 use Rattle.store.specs.Tables.{Store, entries, spent}
 use Rattle.store.specs.Facts.{Sound}
-use Rattle.naming.specs.Naming.{NameParts}
+use Rattle.naming.specs.Naming.{NameParts, called}
+use Rattle.naming.specs.Located.{Locates}
+use Rattle.naming.specs.declared.lookup.Located.{Located}
+use Rattle.dag.specs.declared.transaction.Transaction.{Transaction}
 
 ------ the parts that a step reads or writes
 
@@ -23,6 +26,10 @@ NullsRight t = NullParts t.head t.keys t.rests
 
 pub null_parts : (t : Store) → Sound t → NullParts t.head t.keys t.rests
 null_parts t s = record { few = s.within.few_spent; keys_long = s.lengths.keys_long; rests_long = s.lengths.rests_long }
+
+-- at says where the ids of tx are: its own, and then its parents'
+abbrev pub LocatedFor : Store → Transaction → Located → Type 0
+LocatedFor t tx at = Locates t (called tx.id.now tx.parents.now) (suc (length tx.parents.now)) at
 
 -- there are entries free for the first k of ns, and these are names
 pub record Enterable (t : Store) (ns : ℕ → ℕ) (k : ℕ) : Type 0 where

@@ -7,6 +7,7 @@ mod emptying;
 mod enter;
 mod judge;
 mod plain;
+mod record_names;
 mod roots;
 mod transaction;
 

@@ -6,7 +6,7 @@ use Rattle.dag.proofs.enter.enter.Goals as goal
 
 pub returns-then-not-is_held-clause-left : goal.returns-then-not-is_held-clause-left
 returns-then-not-is_held-clause-left c =
-    entered_stop (store_in c.loop-i.parts) c.args.child (λ j. get_or c.args.parents.now j 0) c.loop-i.i (length c.args.parents.now) c.loop-i-test.true _ (c.is_held.ensures ∙ ap (λ (t : Store). held t (get_or c.args.parents.now c.loop-i.i 0)) c.view.ensures) c.if-not-is_held.true
+    entered_stop (store_in c.loop-i.parts) c.args.names.now.child (λ j. get_or c.args.names.now.parents.now j 0) c.loop-i.i (length c.args.names.now.parents.now) c.loop-i-test.true _ (c.is_held.ensures ∙ ap (λ (t : Store). held t (get_or c.args.names.now.parents.now c.loop-i.i 0)) c.view.ensures) c.if-not-is_held.true
     ∙ sym c.loop-i.invariant.3
 
 pub loop-i-preserved : goal.loop-i-preserved
@@ -16,10 +16,10 @@ loop-i-preserved c =
       ap (λ (t : Store). length t.head) child ∙ child_long _ _ _ ∙ before.0,
       omega (arith, ap (λ (t : Store). entries t) child ∙ child_count (store_in c.loop-i.parts) _ _ before.0, before.1, c.loop-i-test.true),
       same_then before.2 c.add_child.ensures.same,
-      before.3 ∙ entered_more (store_in c.loop-i.parts) c.args.child (λ j. get_or c.args.parents.now j 0) c.loop-i.i (length c.args.parents.now) c.loop-i-test.true _ (c.is_held.ensures ∙ ap (λ (t : Store). held t (get_or c.args.parents.now c.loop-i.i 0)) c.view.ensures) _ c.if-not-is_held.false child,
+      before.3 ∙ entered_more (store_in c.loop-i.parts) c.args.names.now.child (λ j. get_or c.args.names.now.parents.now j 0) c.loop-i.i (length c.args.names.now.parents.now) c.loop-i-test.true _ (c.is_held.ensures ∙ ap (λ (t : Store). held t (get_or c.args.names.now.parents.now c.loop-i.i 0)) c.view.ensures) _ c.if-not-is_held.false child,
     )
 
 pub returns-clause-left : goal.returns-clause-left
 returns-clause-left c =
-    entered_end (store_in c.loop-i.parts) c.args.child (λ j. get_or c.args.parents.now j 0) c.loop-i.i (length c.args.parents.now) c.loop-i-test.false
+    entered_end (store_in c.loop-i.parts) c.args.names.now.child (λ j. get_or c.args.names.now.parents.now j 0) c.loop-i.i (length c.args.names.now.parents.now) c.loop-i-test.false
     ∙ sym c.loop-i.invariant.3

@@ -9,6 +9,6 @@ use Rattle.dag.proofs.enter.enter.Given as goal
 abbrev pub invariant-loop-i : goal.invariant-loop-i
 invariant-loop-i l =
     (length l.parts.head.now ≡ head_length)
-    × (entries (store_in l.parts) + (length l.parents - l.i) ≤ child_limit)
+    × (entries (store_in l.parts) + (length l.names.parents.now - l.i) ≤ child_limit)
     × SameSlices l.initial.parts l.parts
-    × (entered (store_in l.initial.parts) l.child (λ j. get_or l.parents j 0) 0 (length l.parents) ≡ entered (store_in l.parts) l.child (λ j. get_or l.parents j 0) l.i (length l.parents - l.i))
+    × (entered (store_in l.initial.parts) l.names.child (λ j. get_or l.names.parents.now j 0) 0 (length l.names.parents.now) ≡ entered (store_in l.parts) l.names.child (λ j. get_or l.names.parents.now j 0) l.i (length l.names.parents.now - l.i))

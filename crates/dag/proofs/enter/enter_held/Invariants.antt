@@ -9,6 +9,6 @@ use Rattle.dag.proofs.enter.enter_held.Given as goal
 abbrev pub invariant-loop-parent : goal.invariant-loop-parent
 invariant-loop-parent l =
     (length l.parts.head.now ≡ head_length)
-    × (entries (store_in l.parts) + (length l.parents - l.parent-index) ≤ child_limit)
+    × (entries (store_in l.parts) + (length l.names.parents.now - l.parent-index) ≤ child_limit)
     × SameSlices l.initial.parts l.parts
-    × (store_in l.parts ≡ held_entered (store_in l.initial.parts) l.child (λ j. get_or l.parents j 0) l.parent-index)
+    × (store_in l.parts ≡ held_entered (store_in l.initial.parts) l.names.child (λ j. get_or l.names.parents.now j 0) l.parent-index)
