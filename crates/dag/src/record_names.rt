@@ -12,7 +12,7 @@ pub struct RecordNames<'a> {
 }
 
 impl<'a> RecordNames<'a> {
-    // Of a call with so many parents: its own id stands first among the located ones.
+    // Of a call with count parents: the located numbers have the record's own first, and then its parents'.
     pub fn of(at: &'a Located, count: usize) -> RecordNames<'a>
         requires { count ≤ parent_limit }
         ensures child { result.child ≡ get_or at.now.numbers 0 0 }

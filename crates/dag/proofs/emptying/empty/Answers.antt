@@ -1,5 +1,4 @@
 -- Refused or emptied, by the test of the lengths.
-use Rattle.store.specs.Tables.{store}
 use Rattle.dag.proofs.Entering.{empty_refused, empty_done}
 use Rattle.dag.proofs.emptying.empty.Goals as goal
 

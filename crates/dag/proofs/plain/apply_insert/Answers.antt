@@ -1,6 +1,5 @@
 -- The steps follow the rule one by one: the ids named, the mark cleared, the parents entered; then by how far those came.
 use Rattle.std.proofs.Common.{rules, arith}
-use Rattle.store.specs.Parts.{store_in}
 use Rattle.dag.proofs.Begun.{enterable, insert_keepable}
 use Rattle.dag.proofs.Entering.{IsMissing, names_made, passed_on, missing_at, none_missing, tried_stopped, tried_passed}
 use Rattle.dag.proofs.plain.apply_insert.Goals as goal

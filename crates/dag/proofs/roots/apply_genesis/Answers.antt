@@ -1,8 +1,7 @@
 -- The steps follow the rule one by one: the ids named, the mark cleared, the held parents entered; then by whether the nullifier is
 -- there.
-use Rattle.std.proofs.Common.{refl, sym, ap, ◌∙◌, subst, rules, arith}
+use Rattle.std.proofs.Common.{refl, sym, ap, ◌∙◌, subst, rules}
 use Rattle.store.specs.Tables.{Store, place_of}
-use Rattle.store.specs.Parts.{store_in}
 use Rattle.dag.specs.Begun.{NullsRight}
 use Rattle.dag.proofs.Begun.{enterable, genesis_parts, genesis_record, genesis_keepable}
 use Rattle.dag.proofs.Entering.{names_made, genesis_known, genesis_new}
