@@ -25,7 +25,8 @@ pub overflow_add-used-in-loop-line : goal.overflow_add-used-in-loop-line
 overflow_add-used-in-loop-line c =
     let l = c.loop-line in
     let step = c.in-Some.ensures.steps.0 in
-    let rest : length l.line-iterator.iter.rest.now ≡ length c.args.part.now - l.used = ap (λ (s : List ℕ). length s) l.invariant.rest ∙ length-drop l.used c.args.part.now in
+    let rest : length l.line-iterator.iter.rest.now ≡ length c.args.part.now - l.used =
+    ap (λ (s : List ℕ). length s) l.invariant.rest ∙ length-drop l.used c.args.part.now in
     let cut : length c.in-Some-strip_suffix.line.now + 1 ≤ length l.line-iterator.iter.rest.now = omega (arith, step.1.1, c.in-Some-strip_suffix.ensures.cases.2) in
     let within : l.used + (length c.in-Some-strip_suffix.line.now + 1) ≤ length c.args.part.now = omega (arith, rest, cut, l.invariant.going.inside) in
     search rules
@@ -37,9 +38,12 @@ loop-line-preserved c =
     let step = c.in-Some.ensures.steps.0 in
     let line = c.in-Some-strip_suffix.line.now in
     let ends = c.in-Some-strip_suffix.ensures.cases in
+    let text = l.line-iterator.iter.rest.now in
+    let after = c.next.new.self.iter.rest.now in
+    let first = (step.1.2 _ (computes _ (λ x r q k. search (rules, tests)))).1 in
     let cut =
-    subst (λ (t : List ℕ). Cut t line c.next.new.self.iter.rest.now) l.invariant.rest
-    (line_cut l.line-iterator.iter.rest.now c.in-Some.line.now c.next.new.self.iter.rest.now step.0 step.1.0 step.1.1 (step.1.2 _ (computes _ (λ x r q k. search (rules, tests)))).1 step.2 line ends.0 ends.1 ends.2) in
+    subst (λ (t : List ℕ). Cut t line after) l.invariant.rest
+    (line_cut text c.in-Some.line.now after step.0 step.1.0 step.1.1 first step.2 line ends.0 ends.1 ends.2) in
     let count : c.next.new.self.n ≡ l.line-iterator.n - 1 = omega (arith, c.in-Some.ensures.steps.1) in
     record {
       same_buffer = search rules;
@@ -62,8 +66,10 @@ returns c =
           (λ h. rw l.invariant.rest at (w.in-None.ensures.steps h).0)
       | in-Some+in_default w ↦
           let step = w.in-Some.ensures.steps.0 in
+          let first = (step.1.2 _ (computes _ (λ x r q k. search (rules, tests)))).1 in
           let none =
-          no_cut l.line-iterator.iter.rest.now w.in-Some.line.now c.next.new.self.iter.rest.now step.0 step.1.0 step.1.1 (step.1.2 _ (computes _ (λ x r q k. search (rules, tests)))).1 step.2 (rw w.in_default.is at w.strip_suffix.ensures.cases) in
+          no_cut l.line-iterator.iter.rest.now w.in-Some.line.now c.next.new.self.iter.rest.now step.0 step.1.0 step.1.1 first step.2
+          (rw w.in_default.is at w.strip_suffix.ensures.cases) in
           going_none part c.args.out.now out l.line-iterator.n l.used l.page.next l.invariant.going
           (subst (λ (t : List ℕ). length t ≤ place_of newline t) l.invariant.rest none)
     ] in
