@@ -51,14 +51,12 @@ fn answer_lines(part: &[u8], out: &mut [u8]) -> Answered
         next: 0,
     };
     let mut used = 0;
-    for _ in 0..most {
-        let rest = &part[used..];
-        let size = text::place_of(rest, b'\n');
-        if rest.len() <= size {
+    for line in part.split_inclusive(|byte| *byte == b'\n').take(most) {
+        let Some(line) = line.strip_suffix(b"\n") else {
             break;
-        }
-        answer_line(&rest[..size], &mut page);
-        used += size + 1;
+        };
+        answer_line(line, &mut page);
+        used += line.len() + 1;
     }
     Answered {
         used,

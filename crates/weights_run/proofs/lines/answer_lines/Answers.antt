@@ -1,41 +1,76 @@
-use Rattle.std.proofs.Common.{◌≡◌, ◌+◌, ◌-◌, ◌/◌, ◌<◌, ◌≤◌, length, drop, length-drop, arith, rules}
+use Rattle.std.proofs.Common.{◌≡◌, ◌+◌, ◌-◌, ◌≤◌, List, ℕ, length, ap, ◌∙◌, drop-drop, length-drop, subst, ◌/◌, arith, rules, tests}
 use Rattle.text.specs.Pieces.{newline, place_of}
-use Rattle.text.specs.PieceLaws.{from_on}
+use Rattle.text.specs.Put.{put_at}
+use Rattle.weights_run.specs.Output.{answer_line}
 use Rattle.weights_run.specs.Stream.{room_each, answered, answered_of}
-use Rattle.weights_run.specs.StreamLaws.{going_none, going_full, going_more}
+use Rattle.weights_run.specs.StreamLaws.{going_start, going_none, going_more}
+use Rattle.weights_run.proofs.Cut.{Cut, computes, line_cut, no_cut, going_ended}
 use Rattle.weights_run.proofs.lines.answer_lines.Goals as goal
-use Rattle.weights_run.proofs.lines.answer_lines.Goals.{else-loop-test, then-loop-test+then-rest-size}
+use Rattle.weights_run.proofs.lines.answer_lines.Goals.{in-None, in-Some+in_default}
 
-pub loop-preserved : goal.loop-preserved
-loop-preserved c =
-    let part = c.args.part.now in
-    let l = c.loop in
-    let out = l.page.bytes.now in
-    let left = length c.args.out.now / room_each in
-    let size = c.place_of-size.result in
-    let sought : size ≡ place_of newline (drop l.used part) = rw (from_on l.used part) at c.place_of-size.ensures in
-    let more : size < length (drop l.used part) = omega (arith, length-drop l.used part, c.if-rest-size.false) in
-    let one_less : left - (l.counter + 1) ≡ left - l.counter - 1 = omega arith in
+pub loop-line-init : goal.loop-line-init
+loop-line-init c =
+    let source : c.into_iter-line-iterator.result.iter ≡ c.split_inclusive.result = search rules in
+    let count : c.into_iter-line-iterator.result.n ≡ length c.args.out.now / room_each = search rules in
     record {
       same_buffer = search rules;
+      rest = ap (λ (s : _). s.rest.now) source ∙ c.split_inclusive.ensures.rest;
+      going = rw count (going_start c.args.part.now c.args.out.now);
+    }
+
+pub answer_line-requires : goal.answer_line-requires
+answer_line-requires c = omega (arith, c.loop-line.invariant.going.room, c.in-Some.ensures.steps.1)
+
+pub overflow_add-used-in-loop-line : goal.overflow_add-used-in-loop-line
+overflow_add-used-in-loop-line c =
+    let l = c.loop-line in
+    let step = c.in-Some.ensures.steps.0 in
+    let rest : length l.line-iterator.iter.rest.now ≡ length c.args.part.now - l.used =
+    ap (λ (s : List ℕ). length s) l.invariant.rest ∙ length-drop l.used c.args.part.now in
+    let cut : length c.in-Some-strip_suffix.line.now + 1 ≤ length l.line-iterator.iter.rest.now = omega (arith, step.1.1, c.in-Some-strip_suffix.ensures.cases.2) in
+    let within : l.used + (length c.in-Some-strip_suffix.line.now + 1) ≤ length c.args.part.now = omega (arith, rest, cut, l.invariant.going.inside) in
+    search rules
+
+pub loop-line-preserved : goal.loop-line-preserved
+loop-line-preserved c =
+    let part = c.args.part.now in
+    let l = c.loop-line in
+    let step = c.in-Some.ensures.steps.0 in
+    let line = c.in-Some-strip_suffix.line.now in
+    let ends = c.in-Some-strip_suffix.ensures.cases in
+    let text = l.line-iterator.iter.rest.now in
+    let after = c.next.new.self.iter.rest.now in
+    let first = (step.1.2 _ (computes _ (λ x r q k. search (rules, tests)))).1 in
+    let cut =
+    subst (λ (t : List ℕ). Cut t line after) l.invariant.rest
+    (line_cut text c.in-Some.line.now after step.0 step.1.0 step.1.1 first step.2 line ends.0 ends.1 ends.2) in
+    let count : c.next.new.self.n ≡ l.line-iterator.n - 1 = omega (arith, c.in-Some.ensures.steps.1) in
+    record {
+      same_buffer = search rules;
+      rest = cut.back ∙ drop-drop (length line + 1) l.used part;
       going =
-          rw one_less
-          (going_more part c.args.out.now out (left - l.counter) l.used l.page.next l.invariant.going (omega arith) size sought more
-          (rw (from_on l.used part) at c.answer_line.ensures.put));
+          rw count
+          (going_more part c.args.out.now l.page.bytes.now l.line-iterator.n l.used l.page.next l.invariant.going (omega (arith, c.in-Some.ensures.steps.1)) (length line) cut.at cut.more
+          (c.answer_line.ensures.put ∙ ap (λ (s : List ℕ). put_at l.page.bytes.now l.page.next (answer_line s)) cut.front));
     }
 
 pub returns : goal.returns
 returns c =
     let part = c.args.part.now in
-    let l = c.loop in
+    let l = c.loop-line in
     let out = l.page.bytes.now in
     let done : answered (record { used = l.used; written = l.page.next }) out ≡ answered_of part c.args.out.now =
-    elim c.loop-test.branch [
-      | else-loop-test w ↦ going_full part c.args.out.now out _ l.used l.page.next l.invariant.going (omega arith)
-      | then-loop-test+then-rest-size w ↦
-          let sought = rw (from_on l.used part) at w.place_of-size.ensures in
-          let none : length (drop l.used part) ≤ place_of newline (drop l.used part) =
-          omega (arith, length-drop l.used part, sought, w.if-rest-size.true) in
-          going_none part c.args.out.now out _ l.used l.page.next l.invariant.going none
+    elim c.match-next.branch [
+      | in-None w ↦
+          going_ended part c.args.out.now out l.line-iterator.n l.used l.page.next l.invariant.going
+          (λ h. rw l.invariant.rest at (w.in-None.ensures.steps h).0)
+      | in-Some+in_default w ↦
+          let step = w.in-Some.ensures.steps.0 in
+          let first = (step.1.2 _ (computes _ (λ x r q k. search (rules, tests)))).1 in
+          let none =
+          no_cut l.line-iterator.iter.rest.now w.in-Some.line.now c.next.new.self.iter.rest.now step.0 step.1.0 step.1.1 first step.2
+          (rw w.in_default.is at w.strip_suffix.ensures.cases) in
+          going_none part c.args.out.now out l.line-iterator.n l.used l.page.next l.invariant.going
+          (subst (λ (t : List ℕ). length t ≤ place_of newline t) l.invariant.rest none)
     ] in
     search rules
