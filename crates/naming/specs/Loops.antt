@@ -1,7 +1,7 @@
 -- The loops of naming: one over the rows of the new names, one over the call's ids. That what was located is what is named stands in
 -- proofs/NamedParts.
 use Prim.Native.Nat.{ℕ, zero, suc, ◌+◌, ◌≤◌, ◌<◌}
-use Rattle.std.specs.Prelude.{◌≡◌, Bool, true, false, length}
+use Rattle.std.specs.Prelude.{◌≡◌, Bool, true, false}
 use Rattle.std.proofs.Math.Path.{refl, sym, ap}
 use Rattle.std.proofs.Common.{◌∙◌, add-one, one-add, length-set}
 use Rattle.std.proofs.Math.Bool.{cond}

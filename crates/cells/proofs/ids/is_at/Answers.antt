@@ -1,11 +1,7 @@
 -- `cells::ids::is_at` meets its contract: with another key the ids differ, and with the same key the other 28 bytes decide.
-use Rattle.std.proofs.Common.{ap, sym, ◌∙◌, ne_eqb}
-use Rattle.cells.specs.Cells.{same_id}
+use Rattle.std.proofs.Common.{sym, ◌∙◌, ne_eqb}
 use Rattle.cells.specs.Ids.{other_key}
 use Rattle.cells.proofs.ids.is_at.Goals as goal
-
-pub returns-then-keys-p : goal.returns-then-keys-p
-returns-then-keys-p c = c.same_id.ensures ∙ ap (λ y. same_id y c.args.x.now) c.get_id.ensures
 
 pub returns-else-keys-p : goal.returns-else-keys-p
 returns-else-keys-p c =

@@ -12,11 +12,6 @@ list_all-requires c =
     let count = located_count _ _ _ _ pre.1.1.0 in
     (pre.0, (pre.1.0, omega (arith, count, pre.1.1.1)))
 
-pub clear_rows-requires : goal.clear_rows-requires
-clear_rows-requires c =
-    let first = c.names-first.ensures ∙ ap names c.view.ensures in
-    omega (arith, first, c.requires.1.1.1)
-
 pub returns-clause-left : goal.returns-clause-left
 returns-clause-left c =
     let pre = c.requires in

@@ -1,13 +1,6 @@
 -- `nodes_right` meets its contract: it tests column after column of the definition, and each loop says what it tests.
-use native.Mathlib.Omega.{arith}
 use Rattle.store.specs.Check.{nodes_checked}
 use Rattle.store.proofs.sound.nodes_right.Goals as goal
-
-pub overflow_mul-u-2 : goal.overflow_mul-u-2
-overflow_mul-u-2 c = omega (arith, c.requires.1.few_waiting)
-
-pub all_below-requires-10 : goal.all_below-requires-10
-all_below-requires-10 c = omega (arith, c.requires.0, c.requires.1.few_waiting)
 
 pub returns : goal.returns
 returns c =
