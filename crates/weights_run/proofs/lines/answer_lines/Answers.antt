@@ -1,35 +1,12 @@
-use Rattle.std.proofs.Common.{◌≡◌, ◌+◌, ◌-◌, ◌≤◌, List, ℕ, length, ap, ◌∙◌, drop-drop, length-drop, subst, ◌/◌, arith, rules, tests}
+use Rattle.std.proofs.Common.{◌≡◌, ◌+◌, ◌-◌, ◌≤◌, List, ℕ, length, ap, ◌∙◌, drop-drop, subst, arith, rules, tests}
 use Rattle.text.specs.Pieces.{newline, place_of}
 use Rattle.text.specs.Put.{put_at}
 use Rattle.weights_run.specs.Output.{answer_line}
-use Rattle.weights_run.specs.Stream.{room_each, answered, answered_of}
-use Rattle.weights_run.specs.StreamLaws.{going_start, going_none, going_more}
+use Rattle.weights_run.specs.Stream.{answered, answered_of}
+use Rattle.weights_run.specs.StreamLaws.{going_none, going_more}
 use Rattle.weights_run.proofs.Cut.{Cut, computes, line_cut, no_cut, going_ended}
 use Rattle.weights_run.proofs.lines.answer_lines.Goals as goal
 use Rattle.weights_run.proofs.lines.answer_lines.Goals.{in-None, in-Some+in_default}
-
-pub loop-line-init : goal.loop-line-init
-loop-line-init c =
-    let source : c.into_iter-line-iterator.result.iter ≡ c.split_inclusive.result = search rules in
-    let count : c.into_iter-line-iterator.result.n ≡ length c.args.out.now / room_each = search rules in
-    record {
-      same_buffer = search rules;
-      rest = ap (λ (s : _). s.rest.now) source ∙ c.split_inclusive.ensures.rest;
-      going = rw count (going_start c.args.part.now c.args.out.now);
-    }
-
-pub answer_line-requires : goal.answer_line-requires
-answer_line-requires c = omega (arith, c.loop-line.invariant.going.room, c.in-Some.ensures.steps.1)
-
-pub overflow_add-used-in-loop-line : goal.overflow_add-used-in-loop-line
-overflow_add-used-in-loop-line c =
-    let l = c.loop-line in
-    let step = c.in-Some.ensures.steps.0 in
-    let rest : length l.line-iterator.iter.rest.now ≡ length c.args.part.now - l.used =
-    ap (λ (s : List ℕ). length s) l.invariant.rest ∙ length-drop l.used c.args.part.now in
-    let cut : length c.in-Some-strip_suffix.line.now + 1 ≤ length l.line-iterator.iter.rest.now = omega (arith, step.1.1, c.in-Some-strip_suffix.ensures.cases.2) in
-    let within : l.used + (length c.in-Some-strip_suffix.line.now + 1) ≤ length c.args.part.now = omega (arith, rest, cut, l.invariant.going.inside) in
-    search rules
 
 pub loop-line-preserved : goal.loop-line-preserved
 loop-line-preserved c =
