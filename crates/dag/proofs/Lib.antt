@@ -5,3 +5,4 @@ pub mod Begun
 pub mod Kept
 pub mod Children
 pub mod Changes
+pub mod Served

@@ -27,7 +27,7 @@ pub fn place_of(view: &View, z: &[u8; 32]) -> Option<usize>
     cells::find_id(view.keys, view.rests, NULLS_AT, view.spent() as usize, z)
 }
 
-fn is_spent(view: &View, z: &[u8; 32]) -> bool
+pub fn is_spent(view: &View, z: &[u8; 32]) -> bool
     requires { NullsRight (store_seen view.now) }
     ensures { result ≡ is_spent (store_seen view.now) z.now }
 {
