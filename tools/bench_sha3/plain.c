@@ -1,4 +1,4 @@
-/* SHA3-256 in plain C, with the rounds' lanes written out as the Rattle code has them. The kit's clang comes with no headers. */
+/* SHA3-256 in plain C, with the rounds' lanes written out. The kit's clang comes with no headers. */
 typedef __SIZE_TYPE__ size_t;
 typedef __UINT8_TYPE__ uint8_t;
 typedef __UINT64_TYPE__ uint64_t;

@@ -1,5 +1,6 @@
 // What single cells mean: the views of the store that the calls read. One function a view, by its name in specs/Tables: a number of a cell as an
-// argument would say less.
+// argument would say less. Names are plain numbers, and that one is below its limit is asked here and in the updates: a type that says so would ask
+// more of whoever calls.
 ghost use Rattle.std.specs.Prelude.{◌≡◌, ◌<◌};
 ghost use Rattle.store.specs.Limits.{name_limit};
 ghost use Rattle.store.specs.Tables.{names, entries, spent, held, last_entry};

@@ -29,7 +29,8 @@ pub(crate) struct Step {
     pub written: usize,
 }
 
-// Answers the lines that are finished among the first `filled` bytes of input, and moves what is begun to the front.
+// Answers the lines that are finished among the first `filled` bytes of input, and moves what is begun to the front: so it takes the whole buffer, which
+// has a fixed size, and not a slice of it.
 pub(crate) fn advance(input: &mut [u8], filled: usize, out: &mut [u8]) -> Step
     requires { filled ≤ length input.old }
     ensures { stepped result input.new out.new ≡ step_of input.old filled out.old }
