@@ -84,9 +84,6 @@ module _ (t t₀ : Store) (xs : ℕ → Id) (new : ℕ → Bool) (i n : ℕ) (a 
         same = f ∙ rw a.same;
       }
 
-pub listing_all : (t t₀ : Store) (xs : ℕ → Id) (new : ℕ → Bool) (i n : ℕ) → i ≤ n → n ≤ i → Listing t t₀ xs new i → t ≡ listed t₀ xs new n
-listing_all t t₀ xs new i n lo hi a = let e : n ≡ i = omega arith in rw e a.same
-
 -- the first id of a call, and then the others
 module _ (x : Id) (ps : List Id) (new : List Bool) where
   count_front : (n : ℕ) → count_below (flag new) (suc n) ≡ cond (flag new 0) 1 0 + count_below (later new) n

@@ -3,7 +3,7 @@ use native.Mathlib.Omega.{arith}
 use native.Mathlib.Numerals.{add-one}
 use Rattle.store.specs.Parts.{same_start, same_then}
 use Rattle.naming.specs.Calls.{id_count}
-use Rattle.naming.specs.Loops.{listing_none, listing_room, listing_more, listing_all}
+use Rattle.naming.specs.Loops.{listing_none, listing_room, listing_more}
 use Rattle.naming.proofs.name.list_all.Goals as goal
 
 pub loop-i-init : goal.loop-i-init
@@ -20,7 +20,3 @@ loop-i-preserved c =
     let inside : c.loop-i.i < id_count c.args.call.now = omega (arith, c.loop-i-test.true, c.count-i-end.ensures) in
     let more = listing_more _ _ _ _ _ _ before.1 before.2 inside _ (rw (← c.get.ensures) c.list_if.ensures.left) in
     (omega (arith, inside), rw (add-one c.loop-i.i) more, before.2, same_then before.3 c.list_if.ensures.same)
-
-pub returns-clause-left : goal.returns-clause-left
-returns-clause-left c =
-    listing_all _ _ _ _ _ _ c.loop-i.invariant.0 (omega (arith, c.loop-i-test.false, c.count-i-end.ensures)) c.loop-i.invariant.1

@@ -4,7 +4,6 @@ use Prim.Native.Nat.{ℕ, ◌+◌, ◌*◌, ◌/◌, ◌%◌, ◌^◌, ◌<◌, 
 use native.Mathlib.Omega.{arith}
 use lib.Bits.{bit_xor}
 use lib.ListN.{length, get_or, set, take}
-use lib.Seq.{take_all}
 use Rattle.std.specs.Int.{from_le_bytes, w64}
 use Rattle.std.specs.Simd.{first_chunks}
 use Rattle.sha3.specs.Hash.{plus_lane, plus_bytes}
@@ -24,6 +23,3 @@ loop-i-preserved c =
     let part = c.args.part.now in
     let i = c.loop-i.i in
     one_more _ _ part c.as_chunks.result.0.now _ i _ (length part / 8) (c.requires.aligned (omega arith)) (omega arith) (omega arith) (λ k. (c.type_inv.part k).fits) c.as_chunks.ensures.front c.from_le_bytes.ensures c.loop-i.invariant
-
-pub returns : goal.returns
-returns c = c.loop-i.invariant ∙ ap (plus_bytes c.args.lanes c.args.at) (take_all (8 * c.loop-i.i) c.args.part.now (omega arith))
