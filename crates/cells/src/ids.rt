@@ -14,6 +14,14 @@ const REST: usize = 28;
 // How many keys are compared at once.
 const BLOCK: usize = 64;
 
+// x again, which the caller then knows to be an id: the prover knows the length and the bytes' range
+// of an array that is taken by value, and of no reference to one.
+pub fn as_id(x: [u8; 32]) -> [u8; 32]
+    ensures { (result ≡ x) × IsId x }
+{
+    x
+}
+
 // An id's key: its first four bytes as one number, the lowest byte first.
 fn key_of(x: &[u8; 32]) -> u32
     ensures { (result ≡ key_of x.now) × IsId x.now }
