@@ -69,14 +69,6 @@ equal_cells xs ys n a b r e =
     (λ (t : every (λ i. eqb (get_or xs i 0) (get_or ys i 0)) n ≡ true).
     d.1 (ext_get_or 0 xs ys (a ∙ sym b) (λ (i : ℕ) (h : i < length xs). let k : i < n = omega arith in eqb-true (get_or xs i 0) (get_or ys i 0) (every_at (λ i. eqb (get_or xs i 0) (get_or ys i 0)) n i t k))))
 
--- `==` of two parts of n cells, one from `from` on and one from `at` on
-pub equal_parts : (s x : List ℕ) (from at n : ℕ) → from + n ≤ length s → at + n ≤ length x → (r : Bool) → r ≡ pointwise eqb (take (from + n - from) (drop from s)) (take (at + n - at) (drop at x))
-    → r ≡ every (λ i. eqb (get_or s (from + i) 0) (get_or x (at + i) 0)) n
-equal_parts s x from at n h l r e =
-    equal_cells (take (from + n - from) (drop from s)) (take (at + n - at) (drop at x)) n (part_length s from n h) (part_length x at n l) r e
-    ∙ every_cong (λ i. eqb (get_or (take (from + n - from) (drop from s)) i 0) (get_or (take (at + n - at) (drop at x)) i 0)) (λ i. eqb (get_or s (from + i) 0) (get_or x (at + i) 0)) n
-    (λ (i : ℕ) (k : i < n). rw (part_cell s from n i 0 k, part_cell x at n i 0 k))
-
 -- a cell of one of k blocks of 64
 pub block_cell : (k : ℕ) (s : List ℕ) (b i : ℕ) → b < k → i < 64 → get_or (get_or (first_chunks 64 k s) b []) i 0 ≡ get_or s (b * 64 + i) 0
 block_cell zero s b i h m = absurd (omega arith)
