@@ -80,23 +80,25 @@ listing_start p end n out e =
 
 module _ (p : ℕ → Bool) (end n put : ℕ) (out₀ out : List ℕ) (l : Listing p end out₀ out n put) where
   pub listing_next : (m : ℕ) → m ≡ next_from p (n + 1) (end - (n + 1)) → n < end → put < length out
-      → Listing p end out₀ (set out put n) m (put + 1)
+      → Listing p end out₀ (set out put n) m (put + 1) × (n < m)
   listing_next m e h free =
       let next = next_has p (n + 1) end (omega arith) in
       let a = next.start in
       let one : members p m ≡ members p n ++ (n ∷ []) =
       ap (members p) e ∙ members_more p (n + 1) (next_from p (n + 1) (end - (n + 1))) a next.none
-      ∙ ap (members p) (add-one n) ∙ members_one p n (l.here h) in
-      record {
-        stop = rw e next.stop;
-        here = λ g. ap p e ∙ next.here (rw (sym e) g);
-        many = ap (λ (k : ℕ). k + 1) l.many ∙ sym (length-append (members p n) (n ∷ [])) ∙ ap length (sym one);
-        room = omega arith;
-        same = length-set out put n ∙ l.same;
-        all =
-            ap₂ (λ (r : List ℕ) (k : ℕ). set r k n) l.all l.many ∙ placed_one (members p n) out₀ n (omega arith)
-            ∙ ap (λ (r : List ℕ). placed r out₀) (sym one);
-      }
+      ∙ ap (members p) (add-one n) ∙ members_one p n (l.here h) in (
+        record {
+          stop = rw e next.stop;
+          here = λ g. ap p e ∙ next.here (rw (sym e) g);
+          many = ap (λ (k : ℕ). k + 1) l.many ∙ sym (length-append (members p n) (n ∷ [])) ∙ ap length (sym one);
+          room = omega arith;
+          same = length-set out put n ∙ l.same;
+          all =
+              ap₂ (λ (r : List ℕ) (k : ℕ). set r k n) l.all l.many ∙ placed_one (members p n) out₀ n (omega arith)
+              ∙ ap (λ (r : List ℕ). placed r out₀) (sym one);
+        },
+        omega arith,
+      )
 
   -- what is there once out is full
   pub listing_full : (m : ℕ) → end ≡ m → put ≡ length out → (put ≡ min (length (members p m)) (length out₀)) × (out ≡ placed (members p m) out₀)

@@ -3,8 +3,8 @@
 //
 // The two columns are two slices with a place and a count, as in `Places` and `first_id` of specs/: they are lent from one struct to be read and from
 // another to be written, so that a struct of the two would be two again.
-ghost use Rattle.std.specs.Prelude.{◌≡◌, not, ◌+◌, ◌-◌, ◌≤◌, get_or, eqb};
-ghost use Rattle.cells.specs.Cells.{every, first_where, IsId, same_id, key_of, id_at, Places, keys_put, rests_put, has_id, first_id};
+ghost use Rattle.std.specs.Prelude.{◌≡◌, not, ◌+◌, ◌-◌, ◌≤◌, length, get_or, eqb};
+ghost use Rattle.cells.specs.Cells.{every, first_where, IsId, same_id, same_rest, key_of, id_at, Places, keys_put, rests_put, has_id, first_id};
 
 // How many bytes of an id are its key, and how many come after it.
 const KEY: usize = 4;
@@ -13,6 +13,14 @@ const REST: usize = 28;
 
 // How many keys are compared at once.
 const BLOCK: usize = 64;
+
+// x again, which the caller then knows to be an id: the prover knows the length and the bytes' range
+// of an array that is taken by value, and of no reference to one.
+pub fn as_id(x: [u8; 32]) -> [u8; 32]
+    ensures { (result ≡ x) × IsId x }
+{
+    x
+}
 
 // An id's key: its first four bytes as one number, the lowest byte first.
 fn key_of(x: &[u8; 32]) -> u32
@@ -28,12 +36,25 @@ pub fn same_id(x: &[u8; 32], y: &[u8; 32]) -> bool
     x == y
 }
 
+// Whether the 28 bytes from a place on are those of x after its key. A loop without a branch: `==` of the two slices is a
+// call, and with the id put together by `get_id` first, a search that finds takes half as long again.
+fn same_rest(rests: &[u8], from: usize, x: &[u8; 32]) -> bool
+    requires { from + 28 ≤ length rests.now }
+    ensures { result ≡ same_rest rests.now from x.now }
+{
+    let mut same = true;
+    for i in 0..REST {
+        same &= rests[from + i] == x[KEY + i];
+    }
+    same
+}
+
 // Whether place p has the id x, whose key is at hand: the other bytes are read only where the key is the same.
 fn is_at(keys: &[u32], rests: &[u8], p: usize, x: &[u8; 32], key: u32) -> bool
     requires { Places keys.now rests.now (p + 1) × (key ≡ key_of x.now) × IsId x.now }
     ensures { result ≡ same_id (id_at keys.now rests.now p) x.now }
 {
-    keys[p] == key && same_id(&get_id(keys, rests, p), x)
+    keys[p] == key && same_rest(rests, p * REST, x)
 }
 
 // The lowest place from start up to stop, counted from `from`, that has the id x. Never inlined, so that the loop over

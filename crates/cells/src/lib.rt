@@ -10,7 +10,7 @@ ghost use Rattle.cells.specs.Cells.{row_put};
 ghost use Rattle.cells.specs.Columns.{numbers_ordered};
 
 pub use columns::{all_below, all_falling};
-pub use ids::{find_id, get_id, put_id, same_id};
+pub use ids::{as_id, find_id, get_id, put_id, same_id};
 
 // A number that a table has in each of its cells. The two laws say that std's default is 0, and that std's order is that of numbers.
 pub trait Cell: Copy + Default + PartialOrd {

@@ -12,14 +12,14 @@ mag_neg zero = omega arith
 mag_neg (suc x) = omega arith
 
 -- a quotient is no larger than what is divided, but for one step where -n becomes n
-quotient_within : (x y : ℤ) → mag (quot_z x y) ≤ suc (mag x)
+pub quotient_within : (x y : ℤ) → mag (quot_z x y) ≤ suc (mag x)
 quotient_within (pos a) (pos b) = omega (arith, div-le_self a b)
 quotient_within (pos a) (negsuc b) = omega (arith, mag_neg (a / suc b), div-le_self a (suc b))
 quotient_within (negsuc a) (pos b) = omega (arith, mag_neg (suc a / b), div-le_self (suc a) b)
 quotient_within (negsuc a) (negsuc b) = div-le_self (suc a) (suc b)
 
 -- a product of two numbers of 32 bits
-product_within : (x y : ℤ) → mag x < 2 ^ 31 → mag y < 2 ^ 31 → mag (x *ℤ y) ≤ 2 ^ 62
+pub product_within : (x y : ℤ) → mag x < 2 ^ 31 → mag y < 2 ^ 31 → mag (x *ℤ y) ≤ 2 ^ 62
 product_within (pos a) (pos b) h g = mul-le-mul {n₁ = a} {m₁ = b} {n₂ = 2 ^ 31} {m₂ = 2 ^ 31} (omega arith) (omega arith)
 product_within (pos a) (negsuc b) h g = le_trans (mag_neg (a * suc b)) (mul-le-mul {n₂ = 2 ^ 31} {m₂ = 2 ^ 31} (omega arith) g)
 product_within (negsuc a) (pos b) h g = le_trans (mag_neg (suc a * b)) (mul-le-mul {n₂ = 2 ^ 31} {m₂ = 2 ^ 31} h (omega arith))

@@ -1,8 +1,8 @@
 // Epochs, nullifiers, ids and the work test: which bytes are hashed, and in which order.
 #![tactic(auto)]
 
-ghost use Rattle.std.specs.Prelude.{◌≡◌};
-ghost use Rattle.ident.specs.Ident.{little_endian, epoch_reply, epoch_of, nullifier_of, computed_id, work_hash, work_of};
+ghost use Rattle.std.specs.Prelude.{◌≡◌, ◌<◌, length, replicate};
+ghost use Rattle.ident.specs.Ident.{key_limit, little_endian, epoch_reply, epoch_of, nullifier_of, computed_id, id_reply, id_beside, work_hash, work_of};
 
 use sha3::Hasher;
 
@@ -56,10 +56,11 @@ impl Nullifier {
     }
 }
 
-// The hash of the tag, the key and the nullifier; a key over the limit is refused.
-#[tactic(auto, using(crate::specs::Parts::id_refused, crate::specs::Parts::id_served))]
+// The hash of the tag, the key and the nullifier; a key over the limit is refused, with zeros beside the refusal.
+#[tactic(auto, using(crate::specs::Parts::id_refused, crate::specs::Parts::id_refusal, crate::specs::Parts::id_served))]
 pub fn compute_id(key: &[u8], nullifier: Nullifier) -> Result<[u8; 32], OutOfRange>
-    ensures { result ≡ computed_id key.now nullifier.0 }
+    ensures id { result ≡ computed_id key.now nullifier.0 }
+    ensures refused { key_limit < length key.now → (id_reply result ≡ 10) × (id_beside result ≡ replicate 32 0) }
 {
     if key.len() > KEY_LIMIT {
         return Err(OutOfRange);

@@ -21,6 +21,7 @@ pub fn read_number(s: &[u8]) -> Option<u64>
 }
 
 // The number that has one digit more than value, at its end.
+#[tactic(auto, using(crate::specs::Reading::digit_wide, crate::specs::Reading::digit_fits))]
 fn with_digit(value: u64, byte: u8) -> Option<u64>
     ensures { result ≡ with_digit value byte }
 {

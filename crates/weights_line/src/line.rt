@@ -21,13 +21,13 @@ pub fn parse(line: &[u8]) -> Option<Counts>
     if MOST_BYTES < line.len() {
         return None;
     }
-    let mut words = line.split(|byte| *byte == b' ');
-    let shared = text::read_number(words.next()?)?;
-    let joined = text::read_number(words.next()?)?;
-    let depth = text::read_number(words.next()?)?;
-    if words.next().is_some() {
-        return None;
-    }
+    // not by `split`, so that a line of one or two words is refused before a number is read
+    let first = line.iter().position(|byte| *byte == b' ')?;
+    let rest = &line[first + 1..];
+    let second = rest.iter().position(|byte| *byte == b' ')?;
+    let shared = text::read_number(&line[..first])?;
+    let joined = text::read_number(&rest[..second])?;
+    let depth = text::read_number(&rest[second + 1..])?;
     checked(shared, joined, depth)
 }
 

@@ -8,7 +8,7 @@ loop-put-init c = (omega arith, listing_start _ _ _ _ c.next-n.ensures)
 pub loop-put-preserved : goal.loop-put-preserved
 loop-put-preserved c =
     let loop = c.loop-put in
-    (loop.invariant.0, listing_next _ _ _ _ _ _ loop.invariant.1 _ c.next-n-in-loop-put.ensures c.if-n-end.false (omega arith))
+    (loop.invariant.0, (listing_next _ _ _ _ _ _ loop.invariant.1 _ c.next-n-in-loop-put.ensures c.if-n-end.false (omega arith)).0)
 
 pub returns : goal.returns
 returns c =

@@ -1,17 +1,12 @@
 use Rattle.std.proofs.Common.{arith}
 use Rattle.text.specs.Cases.{either}
-use Rattle.text.specs.Reading.{digit_low, digit_high, digit_wide, digit_checked}
+use Rattle.text.specs.Reading.{digit_low, digit_high, digit_checked}
 use Rattle.text.proofs.number.with_digit.Goals as goal
 
 pub returns-then-not-is_ascii_digit : goal.returns-then-not-is_ascii_digit
 returns-then-not-is_ascii_digit c =
     let other = c.if-not-is_ascii_digit.ensures.cases in
     either 48 c.args.byte (λ low. digit_high _ _ (omega (arith, other))) (λ h. digit_low _ _ h)
-
-pub returns-in_err-tens : goal.returns-in_err-tens
-returns-in_err-tens c =
-    let wide = digit_wide c.args.value c.args.byte (omega (arith, c.in_err-tens.ensures)) in
-    cc
 
 pub returns : goal.returns
 returns c =
