@@ -14,8 +14,7 @@ const REST: usize = 28;
 // How many keys are compared at once.
 const BLOCK: usize = 64;
 
-// x again, which the caller then knows to be an id: the prover knows the length and the bytes' range
-// of an array that is taken by value, and of no reference to one.
+// x again, which the caller then knows to be an id.
 pub fn as_id(x: [u8; 32]) -> [u8; 32]
     ensures { (result ≡ x) × IsId x }
 {
